@@ -1,0 +1,58 @@
+-- The laws of weak head reduction. Assumes nothing.
+use mathlib.Core.Path.{_≡_, refl, ap}
+use mathlib.Core.Bool.{true, false, cond}
+use mathlib.Core.Logic.{_⊎_, inl, inr}
+use Prim.Native.Nat.{ℕ, suc, _≤_}
+use native.Mathlib.Omega.{arith}
+use lib.Dec.{eqb}
+use borrow.Author.Tests.{eqb-false}
+use Rattle.term.specs.Terms.{Term, place, ingredient, function, application, Covered, Closed, fill}
+use Rattle.term.specs.Reduction.{Step, beta, left, Neutral, bare, applied, Normal, abstraction, neutral, AtMostOneStep, NormalOrSteps, NormalStays, StepKeepsClosed}
+
+function-stays : {t u : Term} → Step (function t) u → ⊥
+function-stays s = elim s [ ]
+
+pub at-most-one : AtMostOneStep
+at-most-one t u v beta beta = refl
+at-most-one t u v beta (left q) = absurd (function-stays q)
+at-most-one t u v (left p) beta = absurd (function-stays p)
+at-most-one _ _ _ (left {t = a} {t′ = b} {u = u} p) (left {t′ = c} q) = ap (λ x. application x u) (at-most-one a b c p q)
+
+neutral-stays : (t u : Term) → Neutral t → Step t u → ⊥
+neutral-stays t u bare s = elim s [ ]
+neutral-stays t u (applied n) beta = elim n [ ]
+neutral-stays t u (applied {t = a} n) (left {t′ = b} s) = neutral-stays a b n s
+
+pub normal-stays : NormalStays
+normal-stays t u abstraction s = function-stays s
+normal-stays t u (neutral n) s = neutral-stays t u n s
+
+pub normal-or-steps : NormalOrSteps
+normal-or-steps (place k) c = absurd (omega arith)
+normal-or-steps (ingredient i) c = inl (neutral bare)
+normal-or-steps (function t) c = inl abstraction
+normal-or-steps (application t u) c = applies t u (normal-or-steps t (c .0))
+  where
+    applies : (t u : Term) → Normal t ⊎ ((v : Term) × Step t v) → Normal (application t u) ⊎ ((v : Term) × Step (application t u) v)
+    applies t u (inl abstraction) = inr (_, beta)
+    applies t u (inl (neutral n)) = inl (neutral (applied n))
+    applies t u (inr (v, s)) = inr (application v u, left s)
+
+-- what d functions cover, more do
+covered-more : (t : Term) (d e : ℕ) → d ≤ e → Covered d t → Covered e t
+covered-more (place k) d e h c = omega arith
+covered-more (ingredient i) d e h c = tt
+covered-more (function t) d e h c = covered-more t (suc d) (suc e) (omega arith) c
+covered-more (application t u) d e h c = (covered-more t d e h (c .0), covered-more u d e h (c .1))
+
+-- t with a closed term for its outermost place needs one function less
+fill-covered : (t u : Term) (i : ℕ) → Closed u → Covered (suc i) t → Covered i (fill i u t)
+fill-covered (place k) u i cu c =
+    elim (eqb k i) as (λ b. eqb k i ≡ b → Covered i (cond b u (place k))) [ true ↦ λ e. covered-more u 0 i (omega arith) cu | false ↦ λ e. omega (arith, eqb-false k i e) ] refl
+fill-covered (ingredient j) u i cu c = tt
+fill-covered (function t) u i cu c = fill-covered t u (suc i) cu c
+fill-covered (application t v) u i cu c = (fill-covered t u i cu (c .0), fill-covered v u i cu (c .1))
+
+pub step-keeps-closed : StepKeepsClosed
+step-keeps-closed _ _ c (beta {t = t} {u = u}) = fill-covered t u 0 (c .1) (c .0)
+step-keeps-closed _ _ c (left {t = t} {t′ = v} s) = (step-keeps-closed t v (c .0) s, c .1)

@@ -1,0 +1,72 @@
+-- Terms of the lambda calculus with numbered places, and their codes. Assumes nothing.
+use mathlib.Core.Bool.{cond}
+use mathlib.Core.List.{List, [], _∷_, _++_}
+use Prim.Native.Nat.{ℕ, suc, _+_, _/_, _%_, _<_, _≤_, max}
+use lib.Dec.{eqb}
+
+-- A place is a variable: its index counts the functions between it and its own, so 0 means the nearest.
+-- An ingredient is a free name.
+pub data Term : Type 0 where
+  place : ℕ → Term
+  ingredient : ℕ → Term
+  function : Term → Term
+  application : Term → Term → Term
+
+-- the number of nodes
+abbrev pub size : Term → ℕ
+size (place k) = 1
+size (ingredient i) = 1
+size (function t) = suc (size t)
+size (application t u) = suc (size t + size u)
+
+-- how deep functions nest
+abbrev pub nesting : Term → ℕ
+nesting (place k) = 0
+nesting (ingredient i) = 0
+nesting (function t) = suc (nesting t)
+nesting (application t u) = max (nesting t) (nesting u)
+
+-- Each place of t is one of t's own functions or of d functions around t.
+abbrev pub Covered : ℕ → Term → Type 0
+Covered d (place k) = k < d
+Covered d (ingredient i) = Unit {0}
+Covered d (function t) = Covered (suc d) t
+Covered d (application t u) = Covered d t × Covered d u
+
+abbrev pub Closed : Term → Type 0
+Closed t = Covered 0 t
+
+-- each ingredient has a number that the pantry knows
+abbrev pub Stocked : Term → Type 0
+Stocked (place k) = Unit {0}
+Stocked (ingredient i) = i ≤ 4095
+Stocked (function t) = Stocked t
+Stocked (application t u) = Stocked t × Stocked u
+
+-- A recipe is a closed term within the limits.
+pub record Recipe (t : Term) : Type 0 where
+  pub closed : Closed t
+  pub small : size t ≤ 4096
+  pub shallow : nesting t ≤ 128
+  pub stocked : Stocked t
+
+-- the bytes that spell a term: a tag, the node's own number if it has one, its parts
+abbrev pub code : Term → List ℕ
+code (application t u) = 1 ∷ code t ++ code u
+code (function t) = 2 ∷ code t
+code (place k) = 3 ∷ k ∷ []
+code (ingredient i) = 4 ∷ i / 256 ∷ i % 256 ∷ []
+
+-- how many nodes hold the ingredient i, those inside functions too
+abbrev pub occurrences : ℕ → Term → ℕ
+occurrences i (place k) = 0
+occurrences i (ingredient j) = cond (eqb j i) 1 0
+occurrences i (function t) = occurrences i t
+occurrences i (application t u) = occurrences i t + occurrences i u
+
+-- t with u for the place of index i; u is closed wherever this is used, so no index in it shifts
+abbrev pub fill : ℕ → Term → Term → Term
+fill i u (place k) = cond (eqb k i) u (place k)
+fill i u (ingredient j) = ingredient j
+fill i u (function t) = function (fill (suc i) u t)
+fill i u (application t v) = application (fill i u t) (fill i u v)
