@@ -36,18 +36,28 @@ Covered d (application t u) = Covered d t × Covered d u
 abbrev pub Closed : Term → Type 0
 Closed t = Covered 0 t
 
--- each ingredient has a number that the pantry knows
+-- the limits of a recipe: its nodes, its functions nested, its ingredients' numbers
+abbrev pub most-nodes : ℕ
+most-nodes = 4096
+
+abbrev pub most-nested : ℕ
+most-nested = 128
+
+abbrev pub last-ingredient : ℕ
+last-ingredient = 4095
+
+-- each ingredient is one that a bakery can name
 abbrev pub Stocked : Term → Type 0
 Stocked (place k) = Unit {0}
-Stocked (ingredient i) = i ≤ 4095
+Stocked (ingredient i) = i ≤ last-ingredient
 Stocked (function t) = Stocked t
 Stocked (application t u) = Stocked t × Stocked u
 
--- A recipe is a closed term within the limits.
+-- a closed term within the limits
 pub record Recipe (t : Term) : Type 0 where
   pub closed : Closed t
-  pub small : size t ≤ 4096
-  pub shallow : nesting t ≤ 128
+  pub small : size t ≤ most-nodes
+  pub shallow : nesting t ≤ most-nested
   pub stocked : Stocked t
 
 -- the bytes that spell a term: a tag, the node's own number if it has one, its parts

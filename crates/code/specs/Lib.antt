@@ -1,0 +1,5 @@
+pub mod Spell
+pub mod Checks
+pub mod Scans
+pub mod Verdicts
+pub mod Layouts

@@ -1,0 +1,9 @@
+// The nodes of a code as a reading hands them over, and the faults that end a reading.
+mod faults;
+mod nodes;
+
+pub use faults::Fault;
+pub use nodes::Located;
+pub use nodes::Node;
+pub use nodes::Part;
+pub use nodes::Spelling;
