@@ -1,6 +1,6 @@
 -- The checks at one node, in their order. Assumes nothing.
 use mathlib.Core.Bool.{cond}
-use Prim.Native.Nat.{ℕ}
+use Prim.Native.Nat.{ℕ, _<_, _≤_}
 use lib.Dec.{leb, ltb}
 use Rattle.std.specs.declared.result.Result.{Result}
 use Rattle.std.specs.declared.result.Result.the-variants.{Ok, Err}
@@ -12,7 +12,14 @@ use Rattle.node.specs.declared.faults.Fault.{Fault}
 use Rattle.node.specs.declared.faults.Fault.the-variants.{Missing, UnknownTag, TooManyNodes, TooDeep, Uncovered, NoSuchIngredient}
 use Rattle.term.specs.Terms.{most-nodes, most-nested, last-ingredient}
 
--- a node under d functions, whose code begins at byte `at`
+-- a node that may stand under d functions
+abbrev pub Fitting : ℕ → Node → Type 0
+Fitting d Application = Unit {0}
+Fitting d Function = d < most-nested
+Fitting d (Place k) = k < d
+Fitting d (Ingredient i) = i ≤ last-ingredient
+
+-- the check of that, for a node whose code begins at byte `at`
 abbrev pub fitted : ℕ → ℕ → Node → Result Node Fault
 fitted at d Application = Ok Application
 fitted at d Function = cond (ltb d most-nested) (Ok Function) (Err (TooDeep at))

@@ -16,7 +16,7 @@ layout n s (ingredient i) = located n s (Ingredient i) ∷ []
 layout n s (function t) = located n s Function ∷ layout (suc n) (record { part = Body n; around = n ∷ s .around }) t
 layout n s (application t u) =
     located n s Application ∷
-      layout (suc n) (record { part = Left n; around = s .around }) t ++ layout (suc n + size t) (record { part = Right n; around = s .around }) u
+    layout (suc n) (record { part = Left n; around = s .around }) t ++ layout (suc n + size t) (record { part = Right n; around = s .around }) u
 
 -- what is handed over of an accepted code is its term, laid out from node 0 on
 abbrev pub LaidOut : List ℕ → Type 0

@@ -64,12 +64,12 @@ scan end m n [] bs = record { handed = []; ended = finish end n bs }
 scan end zero n (s ∷ ss) bs =
     record { handed = []; ended = elim (next end n s bs) [ Ok node ↦ Err (TooManyNodes (end - length bs)) | Err f ↦ Err f ] }
 scan end (suc m) n (s ∷ ss) bs = elim (next end n s bs) [
-    Ok node ↦
+  | Ok node ↦
       let rest = scan end m (suc n) (parts-of n s node ss) (drop (width node) bs) in
       record { handed = located n s node ∷ rest .handed; ended = rest .ended }
-    | Err f ↦ record { handed = []; ended = Err f }
-  ]
+  | Err f ↦ record { handed = []; ended = Err f }
+]
 
 -- the reading of a whole code
-abbrev pub reading : List ℕ → Scan
+unfoldable pub reading : List ℕ → Scan
 reading bs = scan (length bs) most-nodes 0 (root ∷ []) bs

@@ -10,7 +10,7 @@ use Rattle.node.specs.declared.nodes.Node.the-variants.{Application, Function, 
 use Rattle.node.specs.declared.nodes.Located.{Located}
 use Rattle.node.specs.declared.faults.Fault.{Fault}
 use Rattle.term.specs.Terms.{Term, place, ingredient, function, application, size, code, Recipe}
-use Rattle.code.specs.Scans.{reading}
+use Rattle.code.specs.Scans.{Scan, reading}
 
 -- a code is accepted with its term, or refused for its first fault
 pub data Verdict : Type 0 where
@@ -37,8 +37,11 @@ abbrev pub first : List Term → Term
 first [] = ingredient 0
 first (t ∷ ts) = t
 
-abbrev pub verdict : List ℕ → Verdict
-verdict bs = elim (reading bs .ended) [ Ok n ↦ accepted (first (terms (reading bs .handed))) | Err f ↦ refused f ]
+abbrev pub judgement : Scan → Verdict
+judgement z = elim (z .ended) [ Ok n ↦ accepted (first (terms (z .handed))) | Err f ↦ refused f ]
+
+unfoldable pub verdict : List ℕ → Verdict
+verdict bs = judgement (reading bs)
 
 -- what a reader is told: the size, or the fault
 abbrev pub told : Verdict → Result ℕ Fault

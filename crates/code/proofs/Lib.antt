@@ -1,0 +1,5 @@
+pub mod Turns
+pub mod Lists
+pub mod Accepted
+pub mod Recipes
+pub mod Exact

@@ -1,0 +1,45 @@
+ghost use mathlib.Core.Path.{_≡_};
+ghost use Rattle.code.specs.Checks.{admitted, judged};
+use node::Fault;
+use node::Node;
+use node::Spelling;
+
+const MOST_NODES: u16 = 4096;
+
+const MOST_NESTED: u8 = 128;
+
+const LAST_INGREDIENT: u16 = 4095;
+
+// The checks at a node that `number` nodes come before, under `depth` functions, whose code begins at byte `at`.
+pub fn admit(at: usize, number: u16, depth: u8, node: Node) -> Result<Node, Fault>
+    ensures { λ r. ⌜ r ≡ admitted at number depth node ⌝ }
+{
+    if number >= MOST_NODES {
+        return Err(Fault::TooManyNodes { at });
+    }
+    match node {
+        Node::Function if depth >= MOST_NESTED => Err(Fault::TooDeep { at }),
+        Node::Place(index) if index >= depth as u16 => Err(Fault::Uncovered { at }),
+        Node::Ingredient(i) if i > LAST_INGREDIENT => Err(Fault::NoSuchIngredient { at }),
+        _ => Ok(node),
+    }
+}
+
+// All checks at what the bytes from `at` on spell, in a code of `end` bytes.
+pub(crate) fn judge(
+    end: usize,
+    at: usize,
+    number: u16,
+    depth: u8,
+    spelling: Spelling,
+) -> Result<Node, Fault>
+    ensures { λ r. ⌜ r ≡ judged end at number depth spelling ⌝ }
+{
+    match spelling {
+        Spelling::Nothing => Err(Fault::Missing { at: end }),
+        Spelling::Unknown => Err(Fault::UnknownTag { at }),
+        Spelling::Cut if number >= MOST_NODES => Err(Fault::TooManyNodes { at }),
+        Spelling::Cut => Err(Fault::Missing { at: end }),
+        Spelling::Spelled(node) => admit(at, number, depth, node),
+    }
+}
