@@ -6,7 +6,7 @@ use Rattle.node.specs.declared.nodes.Node.the-variants.{Application, Function, 
 use Rattle.node.specs.declared.nodes.Part.the-variants.{Left, Right, Body}
 use Rattle.node.specs.declared.nodes.Located.{Located}
 use Rattle.term.specs.Terms.{Term, place, ingredient, function, application, size}
-use Rattle.code.specs.Scans.{Slot, root, located, reading}
+use Rattle.code.specs.Scans.{Slot, root, located, handed-over}
 use Rattle.code.specs.Verdicts.{verdict, accepted}
 
 -- t from node number n on, in a slot
@@ -20,4 +20,4 @@ layout n s (application t u) =
 
 -- what is handed over of an accepted code is its term, laid out from node 0 on
 abbrev pub LaidOut : List ℕ → Type 0
-LaidOut bs = (t : Term) → verdict bs ≡ accepted t → reading bs .handed ≡ layout 0 root t
+LaidOut bs = (t : Term) → verdict bs ≡ accepted t → handed-over bs ≡ layout 0 root t

@@ -73,3 +73,7 @@ scan end (suc m) n (s ∷ ss) bs = elim (next end n s bs) [
 -- the reading of a whole code
 unfoldable pub reading : List ℕ → Scan
 reading bs = scan (length bs) most-nodes 0 (root ∷ []) bs
+
+-- the nodes that a reading hands over, left to right: those before the first fault
+abbrev pub handed-over : List ℕ → List Located
+handed-over bs = reading bs .handed

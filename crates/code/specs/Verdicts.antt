@@ -43,7 +43,7 @@ judgement z = elim (z .ended) [ Ok n ↦ accepted (first (terms (z .handed))) | 
 unfoldable pub verdict : List ℕ → Verdict
 verdict bs = judgement (reading bs)
 
--- what a reader is told: the size, or the fault
+-- the answer of a reading: the size of the term, or the fault
 abbrev pub told : Verdict → Result ℕ Fault
 told (accepted t) = Ok (size t)
 told (refused f) = Err f

@@ -1,6 +1,8 @@
 ghost use mathlib.Core.Path.{_≡_};
 ghost use Rattle.std.specs.Iters.{folded};
-ghost use Rattle.code.specs.Scans.{reading};
+ghost use Rattle.code.specs.Scans.{handed-over};
+ghost use Rattle.code.specs.Verdicts.{verdict, told, AcceptsExactly, RoundTrip};
+ghost use Rattle.code.specs.Layouts.{LaidOut};
 use crate::checks::judge;
 use crate::frontier::Frontier;
 use crate::receiver::Receiver;
@@ -8,14 +10,17 @@ use crate::spells::spell;
 use crate::spells::width;
 use node::Fault;
 
-// Reads a code and hands over each of its nodes, left to right, up to the first fault. Answers how many there are.
+// Reads a code, hands over each good node as it comes, left to right, and answers the size of the term or the first fault.
 pub fn read<R: Receiver>(
     receiver: &mut R,
     beside: &mut R::Beside,
     code: &[u8],
 ) -> Result<u16, Fault>
-    ensures ended { λ r. ⌜ r ≡ reading (now (code .entry)) .ended ⌝ }
-    ensures held { λ r. ⌜ held (now (receiver .exit)) (now (beside .exit)) ≡ folded more (held (now (receiver .entry)) (now (beside .entry))) (reading (now (code .entry)) .handed) ⌝ }
+    ensures answer { λ r. ⌜ r ≡ told (verdict (now (code .entry))) ⌝ }
+    ensures held { λ _. ⌜ held (now (receiver .exit)) (now (beside .exit)) ≡ folded more (held (now (receiver .entry)) (now (beside .entry))) (handed-over (now (code .entry))) ⌝ }
+    ensures accepts_exactly { λ _. ⌜ AcceptsExactly (now (code .entry)) ⌝ }
+    ensures round_trip { λ _. ⌜ RoundTrip ⌝ }
+    ensures laid_out { λ _. ⌜ LaidOut (now (code .entry)) ⌝ }
 {
     let mut frontier = Frontier::new();
     let mut number = 0;

@@ -1,0 +1,95 @@
+-- What the loop of the reading keeps. Assumes nothing.
+use mathlib.Core.Path.{_≡_, refl, sym, ap, _∙_}
+use mathlib.Core.List.{List, [], _∷_}
+use Prim.Native.Nat.{ℕ, suc, _+_, _-_, _≤_}
+use native.Mathlib.Omega.{arith}
+use lib.ListN.{length, drop, length-drop}
+use Rattle.std.specs.Iters.{folded}
+use Rattle.std.specs.declared.result.Result.the-variants.{Ok, Err}
+use Rattle.node.specs.declared.nodes.Node.{Node}
+use Rattle.node.specs.declared.nodes.Spelling.{Spelling}
+use Rattle.node.specs.declared.nodes.Located.{Located}
+use Rattle.node.specs.declared.faults.Fault.{Fault}
+use Rattle.node.specs.declared.faults.Fault.the-variants.{Leftover}
+use Rattle.term.specs.Terms.{most-nodes}
+use Rattle.code.specs.Spell.{spell, width}
+use Rattle.code.specs.Checks.{judged}
+use Rattle.code.specs.Scans.{Slot, Scan, root, located, parts-of, finish, next, scan, reading}
+use Rattle.code.proofs.Turns.{judged-ok, onward, goes-on, stops, spells, spelled-width}
+use Rattle.reading.specs.declared.frontier.Frontier.{Frontier}
+use Rattle.reading.specs.declared.frontier.Opening.{Opening}
+use Rattle.reading.specs.Frontiers.{slot-of, slots, Popped, Opened}
+use Rattle.reading.proofs.Stacks.{length-around}
+
+-- what is left to read
+abbrev pub rest-of : ℕ → ℕ → List Slot → List ℕ → Scan
+rest-of end n ss bs = scan end (most-nodes - n) n ss bs
+
+-- every slot is filled
+finish-at-end : (end n : ℕ) (bs : List ℕ) → length bs ≡ 0 → finish end n bs ≡ Ok n
+finish-at-end end n [] h = refl
+finish-at-end end n (b ∷ bs) h = absurd (omega arith)
+
+finish-before : (end n : ℕ) (bs : List ℕ) → (length bs ≡ 0 → ⊥) → finish end n bs ≡ Err (Leftover (end - length bs))
+finish-before end n [] h = absurd (h refl)
+finish-before end n (b ∷ bs) h = refl
+
+module _ {H : Type 0} (more : H → Located → H) where
+  -- what is left to read ends the reading as its code does, and brings the receiver to the same state
+  pub record Underway (code : List ℕ) (start : H) (n : ℕ) (ss : List Slot) (bs : List ℕ) (now : H) : Type 0 where
+    pub small : n ≤ most-nodes
+    pub left : length bs ≤ length code
+    pub ended : rest-of (length code) n ss bs .ended ≡ reading code .ended
+    pub held : folded more now (rest-of (length code) n ss bs .handed) ≡ folded more start (reading code .handed)
+
+  pub begins : (code : List ℕ) (start : H) → Underway code start 0 (root ∷ []) code start
+  unfolding reading
+  begins code start = record { small = omega arith; left = omega arith; ended = refl; held = refl }
+
+  -- no slot is left: where no byte is left either, and where one is
+  module _ {code : List ℕ} {start : H} {n : ℕ} {ss : List Slot} {bs : List ℕ} {now : H} (u : Underway code start n ss bs now) (none : ss ≡ []) where
+    rest-empty : rest-of (length code) n ss bs ≡ record { handed = []; ended = finish (length code) n bs }
+    rest-empty = ap (λ s. rest-of (length code) n s bs) none
+
+    pub last-held : now ≡ folded more start (reading code .handed)
+    last-held = sym (ap (λ z. folded more now (z .handed)) rest-empty) ∙ u .held
+
+    pub at-end : length bs ≡ 0 → Ok n ≡ reading code .ended
+    at-end h = sym (finish-at-end (length code) n bs h) ∙ sym (ap (λ z. z .ended) rest-empty) ∙ u .ended
+
+    pub before-end : (length bs ≡ 0 → ⊥) → Err (Leftover (length code - length bs)) ≡ reading code .ended
+    before-end h = sym (finish-before (length code) n bs h) ∙ sym (ap (λ z. z .ended) rest-empty) ∙ u .ended
+
+  module _ {code : List ℕ} {start : H} {n : ℕ} {f g : Frontier} {bs : List ℕ} {now : H} {o : Opening} {sp : Spelling} (u : Underway code start n (slots f) bs now) (p : Popped f g o) (spelt : sp ≡ spell bs) where
+    -- the checks at the opening that was taken
+    next-here : next (length code) n (slot-of (f .binders) o) bs ≡ judged (length code) (length code - length bs) n (o .depth) sp
+    next-here = λ i. judged (length code) (length code - length bs) n (length-around (f .binders) (o .depth) i) (sym spelt i)
+
+    rest-here : rest-of (length code) n (slots f) bs ≡ rest-of (length code) n (slot-of (f .binders) o ∷ slots g) bs
+    rest-here = ap (λ ss. rest-of (length code) n ss bs) (p .slots)
+
+    -- a node that passes is handed over
+    pub turned : {h : Frontier} (node : Node) (l : Located) → Ok node ≡ judged (length code) (length code - length bs) n (o .depth) sp → l ≡ located n (slot-of (g .binders) o) node → Opened g h n o node → Underway code start (n + 1) (slots h) (drop (width node) bs) (more now l)
+    turned {h} node l e is opened =
+        let s = slot-of (f .binders) o in
+        let ok = judged-ok _ _ _ _ _ node (sym e) in
+        let wide = spelled-width bs node (spells bs node (sym spelt ∙ ok .spelled)) in
+        let room : most-nodes - n ≡ suc (most-nodes - (n + 1)) = omega (arith, ok .room) in
+        let up : suc n ≡ n + 1 = omega arith in
+        let parts : parts-of n s node (slots g) ≡ slots h = sym (opened .slots ∙ ap (λ b. parts-of n (slot-of b o) node (slots g)) (p .binders)) in
+        let after = rest-of (length code) (n + 1) (slots h) (drop (width node) bs) in
+        let on : onward (length code) (most-nodes - (n + 1)) n s (slots g) bs node ≡ after = λ i. scan (length code) (most-nodes - (n + 1)) (up i) (parts i) (drop (width node) bs) in
+        let here : rest-of (length code) n (slots f) bs ≡ record { handed = located n s node ∷ after .handed; ended = after .ended } = rest-here ∙ ap (λ m. scan (length code) m n (s ∷ slots g) bs) room ∙ goes-on (length code) (most-nodes - (n + 1)) n s (slots g) bs node (next-here ∙ sym e) ∙ ap (λ (z : Scan). record { handed = located n s node ∷ z .handed; ended = z .ended }) on in
+        let same : l ≡ located n s node = is ∙ ap (λ b. located n (slot-of b o) node) (p .binders) in
+        record {
+          small = omega (arith, ok .room);
+          left = simp length-drop (omega (arith, u .left));
+          ended = sym (ap (λ z. z .ended) here) ∙ u .ended;
+          held = ap (λ x. folded more (more now x) (after .handed)) same ∙ sym (ap (λ z. folded more now (z .handed)) here) ∙ u .held;
+        }
+
+    -- a fault ends the reading
+    pub stopped : (x : Fault) → Err x ≡ judged (length code) (length code - length bs) n (o .depth) sp → (Err x ≡ reading code .ended) × (now ≡ folded more start (reading code .handed))
+    stopped x e =
+        let here = rest-here ∙ stops (length code) (most-nodes - n) n (slot-of (f .binders) o) (slots g) bs x (next-here ∙ sym e) in
+        (sym (ap (λ z. z .ended) here) ∙ u .ended, sym (ap (λ z. folded more now (z .handed)) here) ∙ u .held)
