@@ -3,6 +3,8 @@ mod faults;
 mod nodes;
 
 pub use faults::Fault;
+pub use faults::FaultDebug;
+pub use faults::FaultPartialEq;
 pub use nodes::Located;
 pub use nodes::Node;
 pub use nodes::Part;

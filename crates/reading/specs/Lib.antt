@@ -1,1 +1,4 @@
 pub mod Frontiers
+pub mod Counters
+pub mod CountFaults
+pub mod Counts

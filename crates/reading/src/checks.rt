@@ -8,7 +8,7 @@ const MOST_NODES: u16 = 4096;
 
 const MOST_NESTED: u8 = 128;
 
-const LAST_INGREDIENT: u16 = 4095;
+pub(crate) const LAST_INGREDIENT: u16 = 4095;
 
 // The checks at a node that `number` nodes come before, under `depth` functions, whose code begins at byte `at`.
 pub fn admit(at: usize, number: u16, depth: u8, node: Node) -> Result<Node, Fault>

@@ -1,11 +1,17 @@
-// The one reading of a code, for any receiver of its nodes.
+// The one reading of a code, for any receiver of its nodes, and the count of an ingredient.
 mod checks;
+mod counter;
+mod counts;
 mod frontier;
-mod outline;
 mod reads;
 mod receiver;
 mod spells;
 
 pub use checks::admit;
+pub use counter::Counter;
+pub use counter::CountingReceiver;
+pub use counts::CountFault;
+pub use counts::FaultOfCount;
+pub use counts::count;
 pub use reads::read;
 pub use receiver::Receiver;

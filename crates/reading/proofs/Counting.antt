@@ -1,0 +1,67 @@
+-- A counter that is handed a term's nodes has counted the term. Assumes nothing.
+use mathlib.Core.Path.{_≡_, refl, sym, ap, _∙_}
+use mathlib.Core.Bool.{true, false, cond}
+use mathlib.Core.List.{List, [], _∷_, _++_}
+use Prim.Native.Nat.{ℕ, suc, _+_, min, _≤_}
+use native.Mathlib.Omega.{arith}
+use lib.Dec.{eqb, leb}
+use borrow.Author.Tests.{le-leb}
+use Rattle.std.proofs.shelf.Tests.{cond-true}
+use Rattle.std.specs.Iters.{folded}
+use Rattle.std.specs.declared.result.Result.{Result}
+use Rattle.std.specs.declared.result.Result.the-variants.{Ok, Err}
+use Rattle.node.specs.declared.nodes.Part.the-variants.{Left, Right, Body}
+use Rattle.node.specs.declared.nodes.Located.{Located}
+use Rattle.node.specs.declared.faults.Fault.{Fault}
+use Rattle.term.specs.Terms.{Term, place, ingredient, function, application, size, occurrences, last-ingredient, Recipe}
+use Rattle.code.specs.Scans.{Slot, root, handed-over}
+use Rattle.code.specs.Verdicts.{Verdict, accepted, refused, verdict, told, AcceptsExactly}
+use Rattle.code.specs.Layouts.{layout, LaidOut}
+use Rattle.reading.specs.declared.counter.Counter.{Counter}
+use Rattle.reading.specs.declared.counts.CountFault.the-variants.{NoSuchIngredient}
+use Rattle.reading.specs.Counters.{after-node}
+use Rattle.reading.specs.Counts.{occurring, counted}
+
+abbrev counter : ℕ → ℕ → Counter
+counter i k = record { ingredient = i; found = k }
+
+folded-append : (c : Counter) (xs ys : List Located) → folded after-node c (xs ++ ys) ≡ folded after-node (folded after-node c xs) ys
+folded-append c [] ys = refl
+folded-append c (x ∷ xs) ys = folded-append (after-node c x) xs ys
+
+-- a term has as many nodes at least as hold an ingredient
+occurrences-le : (i : ℕ) (t : Term) → occurrences i t ≤ size t
+occurrences-le i (place k) = omega arith
+occurrences-le i (ingredient j) = elim (eqb j i) as (λ b. cond b 1 0 ≤ 1) [ true ↦ omega arith | false ↦ omega arith ]
+occurrences-le i (function t) = omega (arith, occurrences-le i t)
+occurrences-le i (application t u) = omega (arith, occurrences-le i t, occurrences-le i u)
+
+-- while the number fits
+counts-term : (i k n : ℕ) (s : Slot) (t : Term) → k + size t ≤ 65535 → folded after-node (counter i k) (layout n s t) ≡ counter i (k + occurrences i t)
+counts-term i k n s (place j) h = ap (counter i) (omega arith)
+counts-term i k n s (ingredient j) h =
+    elim (eqb j i) as (λ b. counter i (cond b (min (k + 1) 65535) k) ≡ counter i (k + cond b 1 0)) [ true ↦ ap (counter i) (omega arith) | false ↦ ap (counter i) (omega arith) ]
+counts-term i k n s (function t) h = counts-term i k (suc n) (record { part = Body n; around = n ∷ s .around }) t (omega arith)
+counts-term i k n s (application t u) h =
+    let left : Slot = record { part = Left n; around = s .around } in
+    let right : Slot = record { part = Right n; around = s .around } in
+    let sum : k + occurrences i t + occurrences i u ≡ k + (occurrences i t + occurrences i u) = omega arith in
+    folded-append (counter i k) (layout (suc n) left t) (layout (suc n + size t) right u)
+    ∙ ap (λ c. folded after-node c (layout (suc n + size t) right u)) (counts-term i k (suc n) left t (omega arith))
+    ∙ counts-term i (k + occurrences i t) (suc n + size t) right u (omega (arith, occurrences-le i t))
+    ∙ ap (counter i) sum
+
+err-not-ok : {n : ℕ} {f : Fault} → _≡_ {A = Result ℕ Fault} (Ok n) (Err f) → ⊥
+err-not-ok h = let z : _≡_ {A = ℕ} 0 1 = cc in omega arith
+
+-- what a count finds in an accepted code
+pub found : (bs : List ℕ) (i n : ℕ) (c : Counter) → i ≤ last-ingredient → Ok n ≡ told (verdict bs) → AcceptsExactly bs → LaidOut bs → c ≡ folded after-node (counter i 0) (handed-over bs) → Ok (c .found) ≡ counted bs i
+found bs i n c small ok exact laid is = go (verdict bs) refl
+  where
+    go : (v : Verdict) → verdict bs ≡ v → Ok (c .found) ≡ counted bs i
+    go (accepted t) e =
+        let recipe = exact t .0 e .1 in
+        let total : 0 + occurrences i t ≡ occurrences i t = omega arith in
+        let all = is ∙ ap (folded after-node (counter i 0)) (laid t e) ∙ counts-term i 0 0 root t (omega (arith, recipe .small)) ∙ ap (counter i) total in
+        ap (λ x. Ok (x .found)) all ∙ sym (ap (occurring i) e) ∙ sym (cond-true (leb i last-ingredient) (occurring i (verdict bs)) (Err NoSuchIngredient) (le-leb i last-ingredient small))
+    go (refused f) e = absurd (err-not-ok (ok ∙ ap told e))

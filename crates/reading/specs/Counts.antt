@@ -1,0 +1,20 @@
+-- The answer of a count. Assumes nothing.
+use mathlib.Core.Bool.{cond}
+use mathlib.Core.List.{List}
+use Prim.Native.Nat.{ℕ}
+use lib.Dec.{leb}
+use Rattle.std.specs.declared.result.Result.{Result}
+use Rattle.std.specs.declared.result.Result.the-variants.{Ok, Err}
+use Rattle.term.specs.Terms.{occurrences, last-ingredient}
+use Rattle.code.specs.Verdicts.{Verdict, verdict, accepted, refused}
+use Rattle.reading.specs.declared.counts.CountFault.{CountFault}
+use Rattle.reading.specs.declared.counts.CountFault.the-variants.{NoSuchIngredient, Code}
+
+-- of an ingredient in a code that was judged
+abbrev pub occurring : ℕ → Verdict → Result ℕ CountFault
+occurring i (accepted t) = Ok (occurrences i t)
+occurring i (refused f) = Err (Code f)
+
+-- the ingredient is looked at first, then the code
+abbrev pub counted : List ℕ → ℕ → Result ℕ CountFault
+counted bs i = cond (leb i last-ingredient) (occurring i (verdict bs)) (Err NoSuchIngredient)

@@ -1,0 +1,49 @@
+ghost use mathlib.Core.Path.{_≡_};
+ghost use Rattle.node.specs.declared.nodes.Located.{Located};
+ghost use Rattle.reading.specs.declared.counter.Counter.{Counter};
+ghost use Rattle.reading.specs.Counters.{after-node};
+use crate::receiver::Receiver;
+use node::Located;
+use node::Node;
+
+// A receiver that counts the nodes that hold one ingredient.
+#[derive(Clone, Copy)]
+pub struct Counter {
+    ingredient: u16,
+    found: u16,
+}
+
+impl Counter {
+    pub fn new(ingredient: u16) -> Self
+        ensures { λ c. ⌜ c ≡ record { ingredient = ingredient; found = 0 } ⌝ }
+    {
+        Counter {
+            ingredient,
+            found: 0,
+        }
+    }
+
+    pub fn found(&self) -> u16
+        ensures { λ r. ⌜ r ≡ now (self .entry) .found ⌝ }
+    {
+        self.found
+    }
+}
+
+pub impl Receiver for Counter as CountingReceiver {
+    type Beside = ();
+
+    ghost Held = { Counter };
+
+    ghost held = { λ c _. c };
+
+    ghost more = { after-node };
+
+    fn put(&mut self, _beside: &mut (), node: Located) {
+        if let Node::Ingredient(i) = node.node
+            && i == self.ingredient
+        {
+            self.found = self.found.saturating_add(1);
+        }
+    }
+}

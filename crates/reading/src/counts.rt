@@ -1,0 +1,50 @@
+ghost use mathlib.Core.Path.{_≡_};
+ghost use Rattle.node.specs.declared.faults.Fault.{Fault};
+ghost use Rattle.reading.specs.declared.counts.CountFault.{CountFault};
+ghost use Rattle.reading.specs.CountFaults.{count-number, from-code};
+ghost use Rattle.reading.specs.Counts.{counted};
+use crate::checks::LAST_INGREDIENT;
+use crate::counter::Counter;
+use crate::counter::CountingReceiver;
+use crate::reads::read;
+use node::Fault;
+use node::FaultDebug;
+use node::FaultPartialEq;
+
+// Why a count is refused.
+#[derive(Clone, Copy, PartialEq, Eq, Debug)]
+pub enum CountFault {
+    NoSuchIngredient,
+    Code(Fault),
+}
+
+impl CountFault {
+    pub fn number(&self) -> u8
+        ensures { λ r. ⌜ r ≡ count-number (now (self .entry)) ⌝ }
+    {
+        match self {
+            CountFault::NoSuchIngredient => 15,
+            CountFault::Code(fault) => fault.number(),
+        }
+    }
+}
+
+pub impl From<Fault> for CountFault as FaultOfCount {
+    ghost converts = { λ f c. c ≡ from-code f };
+
+    fn from(value: Fault) -> Self {
+        CountFault::Code(value)
+    }
+}
+
+// How many nodes of a code hold an ingredient, those inside functions too.
+pub fn count(code: &[u8], ingredient: u16) -> Result<u16, CountFault>
+    ensures { λ r. ⌜ r ≡ counted (now (code .entry)) ingredient ⌝ }
+{
+    if ingredient > LAST_INGREDIENT {
+        return Err(CountFault::NoSuchIngredient);
+    }
+    let mut counter = Counter::new(ingredient);
+    read(&mut counter, &mut (), code)?;
+    Ok(counter.found())
+}
