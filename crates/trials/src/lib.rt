@@ -1,0 +1,7 @@
+// Trials of the libraries on codes with known ends. The crate has nothing but tests.
+#[cfg(test)]
+mod codes;
+#[cfg(test)]
+mod counting;
+#[cfg(test)]
+mod limits;
