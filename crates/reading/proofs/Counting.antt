@@ -1,26 +1,25 @@
 -- A counter that is handed a term's nodes has counted the term. Assumes nothing.
 use mathlib.Core.Path.{_≡_, refl, sym, ap, _∙_}
-use mathlib.Core.Bool.{true, false, cond}
+use mathlib.Core.Bool.{Bool, true, false, cond}
 use mathlib.Core.List.{List, [], _∷_, _++_}
 use Prim.Native.Nat.{ℕ, suc, _+_, min, _≤_}
 use native.Mathlib.Omega.{arith}
 use lib.Dec.{eqb, leb}
-use borrow.Author.Tests.{le-leb}
 use Rattle.std.proofs.shelf.Tests.{cond-true}
 use Rattle.std.specs.Iters.{folded}
-use Rattle.std.specs.declared.result.Result.{Result}
 use Rattle.std.specs.declared.result.Result.the-variants.{Ok, Err}
 use Rattle.node.specs.declared.nodes.Part.the-variants.{Left, Right, Body}
 use Rattle.node.specs.declared.nodes.Located.{Located}
-use Rattle.node.specs.declared.faults.Fault.{Fault}
-use Rattle.term.specs.Terms.{Term, place, ingredient, function, application, size, occurrences, last-ingredient, Recipe}
+use Rattle.term.specs.Terms.{Term, place, ingredient, function, application, size, occurrences, last-ingredient}
 use Rattle.code.specs.Scans.{Slot, root, handed-over}
 use Rattle.code.specs.Verdicts.{Verdict, accepted, refused, verdict, told, AcceptsExactly}
 use Rattle.code.specs.Layouts.{layout, LaidOut}
+use Rattle.code.proofs.Turns.{err-not-ok}
 use Rattle.reading.specs.declared.counter.Counter.{Counter}
+use Rattle.reading.specs.declared.counts.CountFault.{CountFault}
 use Rattle.reading.specs.declared.counts.CountFault.the-variants.{NoSuchIngredient}
 use Rattle.reading.specs.Counters.{after-node}
-use Rattle.reading.specs.Counts.{occurring, counted}
+use Rattle.reading.specs.Counts.{occurring, counter-of, counted}
 
 abbrev counter : ℕ → ℕ → Counter
 counter i k = record { ingredient = i; found = k }
@@ -51,17 +50,21 @@ counts-term i k n s (application t u) h =
     ∙ counts-term i (k + occurrences i t) (suc n + size t) right u (omega (arith, occurrences-le i t))
     ∙ ap (counter i) sum
 
-err-not-ok : {n : ℕ} {f : Fault} → _≡_ {A = Result ℕ Fault} (Ok n) (Err f) → ⊥
-err-not-ok h = let z : _≡_ {A = ℕ} 0 1 = cc in omega arith
+made : (b : Bool) (c d : Counter) (e : CountFault) → Ok c ≡ cond b (Ok d) (Err e) → (b ≡ true) × (c ≡ d)
+made true c d e h = (refl, cc)
+made false c d e h = absurd (err-not-ok (sym h))
 
--- what a count finds in an accepted code
-pub found : (bs : List ℕ) (i n : ℕ) (c : Counter) → i ≤ last-ingredient → Ok n ≡ told (verdict bs) → AcceptsExactly bs → LaidOut bs → c ≡ folded after-node (counter i 0) (handed-over bs) → Ok (c .found) ≡ counted bs i
-found bs i n c small ok exact laid is = go (verdict bs) refl
+-- what a count finds in an accepted code, by a counter that was made for it
+pub found : (bs : List ℕ) (i n : ℕ) (start end : Counter) → Ok start ≡ counter-of i → Ok n ≡ told (verdict bs) → AcceptsExactly bs → LaidOut bs → end ≡ folded after-node start (handed-over bs) → Ok (end .found) ≡ counted bs i
+found bs i n start end new ok exact laid is = go (verdict bs) refl
   where
-    go : (v : Verdict) → verdict bs ≡ v → Ok (c .found) ≡ counted bs i
+    begun : (leb i last-ingredient ≡ true) × (start ≡ counter i 0)
+    begun = made (leb i last-ingredient) start (counter i 0) NoSuchIngredient new
+
+    go : (v : Verdict) → verdict bs ≡ v → Ok (end .found) ≡ counted bs i
     go (accepted t) e =
-        let recipe = exact t .0 e .1 in
-        let total : 0 + occurrences i t ≡ occurrences i t = omega arith in
-        let all = is ∙ ap (folded after-node (counter i 0)) (laid t e) ∙ counts-term i 0 0 root t (omega (arith, recipe .small)) ∙ ap (counter i) total in
-        ap (λ x. Ok (x .found)) all ∙ sym (ap (occurring i) e) ∙ sym (cond-true (leb i last-ingredient) (occurring i (verdict bs)) (Err NoSuchIngredient) (le-leb i last-ingredient small))
-    go (refused f) e = absurd (err-not-ok (ok ∙ ap told e))
+        let small = exact t .0 e .1 .small in
+        let none : 0 + occurrences i t ≡ occurrences i t = omega arith in
+        let all = is ∙ (λ x. folded after-node (begun .1 x) (laid t e x)) ∙ counts-term i 0 0 root t (omega arith) ∙ ap (counter i) none in
+        ap (λ c. Ok (c .found)) all ∙ sym (ap (occurring i) e) ∙ sym (cond-true (leb i last-ingredient) (occurring i (verdict bs)) (Err NoSuchIngredient) (begun .0))
+    go (refused f) e = absurd (err-not-ok (sym (ok ∙ ap told e)))

@@ -10,7 +10,6 @@ use Rattle.node.specs.declared.nodes.Node.{Node}
 use Rattle.node.specs.declared.nodes.Spelling.{Spelling}
 use Rattle.node.specs.declared.nodes.Located.{Located}
 use Rattle.node.specs.declared.faults.Fault.{Fault}
-use Rattle.node.specs.declared.faults.Fault.the-variants.{Leftover}
 use Rattle.term.specs.Terms.{most-nodes}
 use Rattle.code.specs.Spell.{spell, width}
 use Rattle.code.specs.Checks.{judged}
@@ -25,15 +24,6 @@ use Rattle.reading.proofs.Stacks.{length-around}
 abbrev pub rest-of : ℕ → ℕ → List Slot → List ℕ → Scan
 rest-of end n ss bs = scan end (most-nodes - n) n ss bs
 
--- every slot is filled
-finish-at-end : (end n : ℕ) (bs : List ℕ) → length bs ≡ 0 → finish end n bs ≡ Ok n
-finish-at-end end n [] h = refl
-finish-at-end end n (b ∷ bs) h = absurd (omega arith)
-
-finish-before : (end n : ℕ) (bs : List ℕ) → (length bs ≡ 0 → ⊥) → finish end n bs ≡ Err (Leftover (end - length bs))
-finish-before end n [] h = absurd (h refl)
-finish-before end n (b ∷ bs) h = refl
-
 module _ {H : Type 0} (more : H → Located → H) where
   -- what is left to read ends the reading as its code does, and brings the receiver to the same state
   pub record Underway (code : List ℕ) (start : H) (n : ℕ) (ss : List Slot) (bs : List ℕ) (now : H) : Type 0 where
@@ -46,19 +36,16 @@ module _ {H : Type 0} (more : H → Located → H) where
   unfolding reading
   begins code start = record { small = omega arith; left = omega arith; ended = refl; held = refl }
 
-  -- no slot is left: where no byte is left either, and where one is
+  -- no slot is left
   module _ {code : List ℕ} {start : H} {n : ℕ} {ss : List Slot} {bs : List ℕ} {now : H} (u : Underway code start n ss bs now) (none : ss ≡ []) where
     rest-empty : rest-of (length code) n ss bs ≡ record { handed = []; ended = finish (length code) n bs }
     rest-empty = ap (λ s. rest-of (length code) n s bs) none
 
+    pub last-ended : finish (length code) n bs ≡ reading code .ended
+    last-ended = sym (ap (λ z. z .ended) rest-empty) ∙ u .ended
+
     pub last-held : now ≡ folded more start (reading code .handed)
     last-held = sym (ap (λ z. folded more now (z .handed)) rest-empty) ∙ u .held
-
-    pub at-end : length bs ≡ 0 → Ok n ≡ reading code .ended
-    at-end h = sym (finish-at-end (length code) n bs h) ∙ sym (ap (λ z. z .ended) rest-empty) ∙ u .ended
-
-    pub before-end : (length bs ≡ 0 → ⊥) → Err (Leftover (length code - length bs)) ≡ reading code .ended
-    before-end h = sym (finish-before (length code) n bs h) ∙ sym (ap (λ z. z .ended) rest-empty) ∙ u .ended
 
   module _ {code : List ℕ} {start : H} {n : ℕ} {f g : Frontier} {bs : List ℕ} {now : H} {o : Opening} {sp : Spelling} (u : Underway code start n (slots f) bs now) (p : Popped f g o) (spelt : sp ≡ spell bs) where
     -- the checks at the opening that was taken

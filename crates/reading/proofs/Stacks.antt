@@ -11,7 +11,7 @@ use Rattle.std.specs.declared.option.Option.the-variants.{Some, None}
 use Rattle.node.specs.declared.nodes.Node.{Node}
 use Rattle.node.specs.declared.nodes.Node.the-variants.{Application, Function, Place, Ingredient}
 use Rattle.node.specs.declared.nodes.Located.{Located}
-use Rattle.node.specs.declared.nodes.Part.the-variants.{Left, Right}
+use Rattle.node.specs.declared.nodes.Part.the-variants.{Left, Right, Body}
 use Rattle.code.specs.Scans.{Slot, located, parts-of}
 use Rattle.reading.specs.declared.frontier.Opening.{Opening}
 use Rattle.reading.specs.declared.frontier.Frontier.{Frontier}
@@ -91,10 +91,17 @@ other-located bs n o (Place k) h = absurd (h k refl)
 other-located bs n o (Ingredient i) h = rw (length-around bs (o .depth)) refl
 
 -- the two sides of an application, the right one pushed first
-pub sides-opened : (f g h : Frontier) (n : ℕ) (o : Opening) (node : Node) → node ≡ Application → g .binders ≡ f .binders → slots g ≡ slot-of (f .binders) (record { part = Right n; depth = o .depth }) ∷ slots f → slots h ≡ slot-of (g .binders) (record { part = Left n; depth = o .depth }) ∷ slots g → slots h ≡ parts-of n (slot-of (f .binders) o) node (slots f)
-sides-opened f g h n o node e b right left =
-    let front : Slot = record { part = Left n; around = around (f .binders) (o .depth) } in
-    rw e (left ∙ ap (λ bs. slot-of bs (record { part = Left n; depth = o .depth }) ∷ slots g) b ∙ ap (λ ss. front ∷ ss) right)
+pub sides-opened : (f g h : Frontier) (n : ℕ) (o : Opening) {node : Node} {l r : Opening} → node ≡ Application → r ≡ record { part = Right n; depth = o .depth } → l ≡ record { part = Left n; depth = o .depth } → g .binders ≡ f .binders → slots g ≡ slot-of (f .binders) r ∷ slots f → slots h ≡ slot-of (g .binders) l ∷ slots g → slots h ≡ parts-of n (slot-of (f .binders) o) node (slots f)
+sides-opened f g h n o e right left same below above =
+    let first : Slot = record { part = Left n; around = around (f .binders) (o .depth) } in
+    rw e (above ∙ (λ i. slot-of (same i) (left i) ∷ below i) ∙ ap (λ x. first ∷ slot-of (f .binders) x ∷ slots f) right)
+
+-- the body of a function, whose number the table of binders has taken
+pub body-opened : (f g h : Frontier) (n : ℕ) (o : Opening) {node : Node} {b : Opening} → node ≡ Function → b ≡ record { part = Body n; depth = o .depth + 1 } → o .depth < length (f .binders) → Falling (f .openings) (f .count) (o .depth) → g ≡ record { openings = f .openings; count = f .count; binders = set (f .binders) (o .depth) n } → slots h ≡ slot-of (g .binders) b ∷ slots g → slots h ≡ parts-of n (slot-of (f .binders) o) node (slots f)
+body-opened f g h n o e body deep fall is above =
+    let table = bound (f .binders) (o .depth) n deep in
+    let below = stacked-binders (f .openings) (f .binders) (o .depth) n (f .count) (o .depth) (omega arith) fall in
+    rw e (above ∙ (λ i. slot-of (is i .binders) (body i) ∷ slots (is i)) ∙ (λ i. record { part = Body n; around = table i } ∷ below i))
 
 -- a leaf has no parts
 pub none-opened : (n : ℕ) (s : Slot) (node : Node) (ss : List Slot) → ((k : ℕ) × (node ≡ Place k)) ⊎ ((i : ℕ) × (node ≡ Ingredient i)) → ss ≡ parts-of n s node ss

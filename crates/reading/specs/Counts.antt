@@ -7,6 +7,7 @@ use Rattle.std.specs.declared.result.Result.{Result}
 use Rattle.std.specs.declared.result.Result.the-variants.{Ok, Err}
 use Rattle.term.specs.Terms.{occurrences, last-ingredient}
 use Rattle.code.specs.Verdicts.{Verdict, verdict, accepted, refused}
+use Rattle.reading.specs.declared.counter.Counter.{Counter}
 use Rattle.reading.specs.declared.counts.CountFault.{CountFault}
 use Rattle.reading.specs.declared.counts.CountFault.the-variants.{NoSuchIngredient, Code}
 
@@ -14,6 +15,10 @@ use Rattle.reading.specs.declared.counts.CountFault.the-variants.{NoSuchIngred
 abbrev pub occurring : ℕ → Verdict → Result ℕ CountFault
 occurring i (accepted t) = Ok (occurrences i t)
 occurring i (refused f) = Err (Code f)
+
+-- a counter of an ingredient that a recipe can have
+abbrev pub counter-of : ℕ → Result Counter CountFault
+counter-of i = cond (leb i last-ingredient) (Ok (record { ingredient = i; found = 0 })) (Err NoSuchIngredient)
 
 -- the ingredient is looked at first, then the code
 abbrev pub counted : List ℕ → ℕ → Result ℕ CountFault

@@ -3,7 +3,6 @@ ghost use Rattle.node.specs.declared.faults.Fault.{Fault};
 ghost use Rattle.reading.specs.declared.counts.CountFault.{CountFault};
 ghost use Rattle.reading.specs.CountFaults.{count-number, from-code};
 ghost use Rattle.reading.specs.Counts.{counted};
-use crate::checks::LAST_INGREDIENT;
 use crate::counter::Counter;
 use crate::counter::CountingReceiver;
 use crate::reads::read;
@@ -41,10 +40,7 @@ pub impl From<Fault> for CountFault as FaultOfCount {
 pub fn count(code: &[u8], ingredient: u16) -> Result<u16, CountFault>
     ensures { λ r. ⌜ r ≡ counted (now (code .entry)) ingredient ⌝ }
 {
-    if ingredient > LAST_INGREDIENT {
-        return Err(CountFault::NoSuchIngredient);
-    }
-    let mut counter = Counter::new(ingredient);
+    let mut counter = Counter::new(ingredient)?;
     read(&mut counter, &mut (), code)?;
     Ok(counter.found())
 }

@@ -2,6 +2,7 @@ ghost use mathlib.Core.Path.{_≡_};
 ghost use mathlib.Core.List.{[], _∷_};
 ghost use Prim.Native.Nat.{_+_, _≤_, _<_};
 ghost use Rattle.std.specs.Options.{Cases};
+ghost use Rattle.node.specs.declared.nodes.Part.the-variants.{Left, Right, Body};
 ghost use Rattle.code.specs.Checks.{Fitting};
 ghost use Rattle.code.specs.Scans.{root, located};
 ghost use Rattle.reading.specs.Frontiers.{slot-of, slots, Falling, Popped, Opened};
@@ -22,6 +23,36 @@ pub(crate) struct Frontier {
     pub openings: [Opening; 4097],
     pub count: usize,
     pub binders: [u16; 128],
+}
+
+impl Opening {
+    // The left side of the application with that number, under that many functions.
+    fn left(number: u16, depth: u8) -> Self
+        ensures { λ o. ⌜ o ≡ record { part = Left number; depth = depth } ⌝ }
+    {
+        Opening {
+            part: Part::Left(number),
+            depth,
+        }
+    }
+
+    fn right(number: u16, depth: u8) -> Self
+        ensures { λ o. ⌜ o ≡ record { part = Right number; depth = depth } ⌝ }
+    {
+        Opening {
+            part: Part::Right(number),
+            depth,
+        }
+    }
+
+    fn body(number: u16, depth: u8) -> Self
+        ensures { λ o. ⌜ o ≡ record { part = Body number; depth = depth } ⌝ }
+    {
+        Opening {
+            part: Part::Body(number),
+            depth,
+        }
+    }
 }
 
 impl Frontier {
@@ -55,16 +86,16 @@ impl Frontier {
         Some(self.openings[self.count])
     }
 
-    fn push(&mut self, part: Part, depth: u8)
+    fn push(&mut self, opening: Opening)
         requires few { ⌜ now self .count < 4097 ⌝ }
-        requires falling { ⌜ Falling (now self .openings) (now self .count) depth ⌝ }
-        ensures slots { λ _. ⌜ slots (now (self .exit)) ≡ slot-of (now (self .entry) .binders) (record { part = part; depth = depth }) ∷ slots (now (self .entry)) ⌝ }
+        requires falling { ⌜ Falling (now self .openings) (now self .count) (opening .depth) ⌝ }
+        ensures slots { λ _. ⌜ slots (now (self .exit)) ≡ slot-of (now (self .entry) .binders) opening ∷ slots (now (self .entry)) ⌝ }
         ensures binders { λ _. ⌜ now (self .exit) .binders ≡ now (self .entry) .binders ⌝ }
         ensures count { λ _. ⌜ now (self .exit) .count ≡ now (self .entry) .count + 1 ⌝ }
-        ensures falling { λ _. ⌜ Falling (now (self .exit) .openings) (now (self .exit) .count) depth ⌝ }
+        ensures falling { λ _. ⌜ Falling (now (self .exit) .openings) (now (self .exit) .count) (opening .depth) ⌝ }
     {
         let at = self.count;
-        self.openings[at] = Opening { part, depth };
+        self.openings[at] = opening;
         self.count = at + 1;
     }
 
@@ -99,12 +130,12 @@ impl Frontier {
         let depth = opening.depth;
         match node {
             Node::Application => {
-                self.push(Part::Right(number), depth);
-                self.push(Part::Left(number), depth);
+                self.push(Opening::right(number, depth));
+                self.push(Opening::left(number, depth));
             }
             Node::Function => {
                 self.binders[depth as usize] = number;
-                self.push(Part::Body(number), depth + 1);
+                self.push(Opening::body(number, depth + 1));
             }
             Node::Place(_) | Node::Ingredient(_) => {}
         }

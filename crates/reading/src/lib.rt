@@ -8,12 +8,11 @@ mod receiver;
 mod spells;
 
 pub use checks::admit;
-pub use counter::Counter;
-pub use counter::CountingReceiver;
 pub use counts::CountFault;
 pub use counts::CountFaultDebug;
 pub use counts::CountFaultPartialEq;
 pub use counts::FaultOfCount;
 pub use counts::count;
 pub use reads::read;
+pub use receiver::NoReceiver;
 pub use receiver::Receiver;

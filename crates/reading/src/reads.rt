@@ -1,6 +1,8 @@
 ghost use mathlib.Core.Path.{_≡_};
 ghost use Rattle.std.specs.Iters.{folded};
-ghost use Rattle.code.specs.Scans.{handed-over};
+ghost use Prim.Native.Nat.{_≤_};
+ghost use lib.ListN.{length};
+ghost use Rattle.code.specs.Scans.{finish as finished, handed-over};
 ghost use Rattle.code.specs.Verdicts.{verdict, told, AcceptsExactly, RoundTrip};
 ghost use Rattle.code.specs.Layouts.{LaidOut};
 use crate::checks::judge;
@@ -9,6 +11,18 @@ use crate::receiver::Receiver;
 use crate::spells::spell;
 use crate::spells::width;
 use node::Fault;
+
+// The answer where nothing more is to come.
+fn finish(end: usize, number: u16, rest: &[u8]) -> Result<u16, Fault>
+    requires { ⌜ length (now rest) ≤ end ⌝ }
+    ensures { λ r. ⌜ r ≡ finished end number (now (rest .entry)) ⌝ }
+{
+    let at = end - rest.len();
+    match rest {
+        [] => Ok(number),
+        [_, ..] => Err(Fault::Leftover { at }),
+    }
+}
 
 // Reads a code, hands over each good node as it comes, left to right, and answers the size of the term or the first fault.
 pub fn read<R: Receiver>(
@@ -33,11 +47,5 @@ pub fn read<R: Receiver>(
         rest = &rest[width(node)..];
         number += 1;
     }
-    if rest.is_empty() {
-        Ok(number)
-    } else {
-        Err(Fault::Leftover {
-            at: code.len() - rest.len(),
-        })
-    }
+    finish(code.len(), number, rest)
 }

@@ -19,3 +19,16 @@ pub trait Receiver {
     fn put(&mut self, beside: &mut Self::Beside, node: Located)
         ensures { λ _. ⌜ held (now (self .exit)) (now (beside .exit)) ≡ more (held (now (self .entry)) (now (beside .entry))) node ⌝ };
 }
+
+// For a reader that only asks whether a code is a recipe: nothing is kept.
+pub impl Receiver for () as NoReceiver {
+    type Beside = ();
+
+    ghost Held = { Unit {0} };
+
+    ghost held = { λ _ _. tt };
+
+    ghost more = { λ _ _. tt };
+
+    fn put(&mut self, _beside: &mut (), _node: Located) {}
+}

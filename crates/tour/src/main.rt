@@ -1,7 +1,6 @@
 // One real recipe from beginning to end, each step printed.
 use node::Fault;
-use reading::Counter;
-use reading::CountingReceiver;
+use reading::NoReceiver;
 use reading::count;
 use reading::read;
 use std::io;
@@ -64,7 +63,7 @@ fn print_refusal(rt: &LibcRuntime, fault: Fault) -> io::Result<()> {
 }
 
 fn print_verdict(rt: &LibcRuntime, code: &[u8]) -> io::Result<()> {
-    match read(&mut Counter::new(0), &mut (), code) {
+    match read(&mut (), &mut (), code) {
         Ok(size) => println!(rt, "  a recipe of {size} nodes"),
         Err(fault) => print_refusal(rt, fault),
     }

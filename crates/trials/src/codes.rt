@@ -2,14 +2,13 @@
 use node::Fault;
 use node::FaultDebug;
 use node::FaultPartialEq;
-use reading::Counter;
-use reading::CountingReceiver;
+use reading::NoReceiver;
 use reading::read;
 use std::test::*;
 
 // The size of a code's term, or its fault.
 pub fn read_size(code: &[u8]) -> Result<u16, Fault> {
-    read(&mut Counter::new(0), &mut (), code)
+    read(&mut (), &mut (), code)
 }
 
 #[test]

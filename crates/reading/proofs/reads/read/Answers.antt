@@ -4,7 +4,6 @@ use Prim.Native.Nat.{ℕ}
 use mir.Val.{Fits}
 use mir.Syntax.{w8}
 use native.Mathlib.Omega.{arith}
-use borrow.Author.Tests.{true-eqb, false-eqb}
 use lib.ListN.{getD, drop}
 use Rattle.std.proofs.shelf.Lists.{take-rest}
 use Rattle.std.proofs.shelf.Results.{err-from-errBy}
@@ -17,7 +16,7 @@ use Rattle.code.specs.Layouts.{LaidOut}
 use Rattle.code.proofs.Lists.{Bytes}
 use Rattle.code.proofs.Exact.{answered, accepts-exactly, round-trip, laid-out}
 use Rattle.code.proofs.Turns.{judged-ok}
-use Rattle.reading.proofs.Loops.{Underway, begins, last-held, at-end, before-end, turned, stopped}
+use Rattle.reading.proofs.Loops.{Underway, begins, last-ended, last-held, turned, stopped}
 use Rattle.reading.proofs.reads.read.Needs as need
 
 -- the promises, from the end of the reading
@@ -40,17 +39,11 @@ returns-in-Break-node g c =
     let r = stopped (g .R·Receiver .more) (c .loop-opening .inv .2) (c .in-Some .ensures tt) (c .spell .ensures) _ (c .in-Break-node .ensures tt) in
     promised (c .args .code .now) (c .typed .code) (p .1 ∙ ap Err (p .2) ∙ r .0) (r .1)
 
-pub returns-then-is-empty : need.returns-then-is-empty
-returns-then-is-empty g c =
+pub returns : need.returns
+returns g c =
     let u = c .loop-opening .inv .2 in
     let none = c .in-rest .ensures tt in
-    promised (c .args .code .now) (c .typed .code) (at-end _ u none (true-eqb _ 0 (c .if-is-empty .ensures tt))) (last-held _ u none)
-
-pub returns-else-is-empty : need.returns-else-is-empty
-returns-else-is-empty g c =
-    let u = c .loop-opening .inv .2 in
-    let none = c .in-rest .ensures tt in
-    promised (c .args .code .now) (c .typed .code) (before-end _ u none (false-eqb _ 0 (c .if-is-empty .ensures tt))) (last-held _ u none)
+    promised (c .args .code .now) (c .typed .code) (c .finish .ensures ∙ last-ended _ u none) (last-held _ u none)
 
 pub open-requires : need.open-requires
 open-requires g c κs =
