@@ -12,8 +12,8 @@ use Rattle.node.specs.declared.nodes.Node.{Node}
 use Rattle.node.specs.declared.nodes.Node.the-variants.{Application, Function, Place, Ingredient}
 use Rattle.node.specs.declared.faults.Fault.{Fault}
 use Rattle.term.specs.Terms.{Term, place, ingredient, function, application, size, code}
-use Rattle.code.specs.Spell.{spell, width}
-use Rattle.code.specs.Checks.{Fitting, judged}
+use Rattle.node.specs.Spell.{spell, width}
+use Rattle.node.specs.Checks.{Fitting, judged}
 use Rattle.code.specs.Scans.{Slot, located, parts-of, next, scan}
 use Rattle.code.specs.Verdicts.{joined-to, terms}
 use Rattle.code.proofs.Turns.{err-not-ok, Admitted, judged-ok, onward, goes-on, stops, Spells, spells}

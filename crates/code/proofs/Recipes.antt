@@ -15,8 +15,8 @@ use Rattle.node.specs.declared.nodes.Located.{Located}
 use Rattle.term.specs.Terms.{Term, place, ingredient, function, application, size, code, most-nodes}
 use Rattle.node.specs.declared.nodes.Spelling.the-variants.{Spelled}
 use Rattle.node.specs.declared.nodes.Part.the-variants.{Left, Right}
-use Rattle.code.specs.Spell.{spell}
-use Rattle.code.specs.Checks.{Fitting, admitted, judged}
+use Rattle.node.specs.Spell.{spell}
+use Rattle.node.specs.Checks.{Fitting, admitted, judged}
 use Rattle.code.specs.Scans.{Slot, Scan, located, parts-of, next, scan}
 use Rattle.code.specs.Layouts.{layout}
 use Rattle.code.proofs.Turns.{onward, goes-on}

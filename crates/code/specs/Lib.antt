@@ -1,5 +1,3 @@
-pub mod Spell
-pub mod Checks
 pub mod Scans
 pub mod Verdicts
 pub mod Layouts

@@ -14,8 +14,8 @@ use Rattle.node.specs.declared.nodes.Located.{Located}
 use Rattle.node.specs.declared.faults.Fault.{Fault}
 use Rattle.node.specs.declared.faults.Fault.the-variants.{TooManyNodes, Leftover}
 use Rattle.term.specs.Terms.{most-nodes}
-use Rattle.code.specs.Spell.{spell, width}
-use Rattle.code.specs.Checks.{judged}
+use Rattle.node.specs.Spell.{spell, width}
+use Rattle.node.specs.Checks.{judged}
 
 -- A slot is a part of the term that is still to come: which part it is, and the numbers of the functions around it, the nearest first.
 pub record Slot : Type 0 where

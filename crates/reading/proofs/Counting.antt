@@ -1,25 +1,22 @@
 -- A counter that is handed a term's nodes has counted the term. Assumes nothing.
 use mathlib.Core.Path.{_≡_, refl, sym, ap, _∙_}
-use mathlib.Core.Bool.{Bool, true, false, cond}
+use mathlib.Core.Bool.{true, false, cond}
 use mathlib.Core.List.{List, [], _∷_, _++_}
 use Prim.Native.Nat.{ℕ, suc, _+_, min, _≤_}
 use native.Mathlib.Omega.{arith}
-use lib.Dec.{eqb, leb}
-use Rattle.std.proofs.shelf.Tests.{cond-true}
+use lib.Dec.{eqb}
 use Rattle.std.specs.Iters.{folded}
-use Rattle.std.specs.declared.result.Result.the-variants.{Ok, Err}
+use Rattle.std.specs.declared.result.Result.the-variants.{Ok}
 use Rattle.node.specs.declared.nodes.Part.the-variants.{Left, Right, Body}
 use Rattle.node.specs.declared.nodes.Located.{Located}
-use Rattle.term.specs.Terms.{Term, place, ingredient, function, application, size, occurrences, last-ingredient}
+use Rattle.term.specs.Terms.{Term, place, ingredient, function, application, size, occurrences}
 use Rattle.code.specs.Scans.{Slot, root, handed-over}
 use Rattle.code.specs.Verdicts.{Verdict, accepted, refused, verdict, told, AcceptsExactly}
 use Rattle.code.specs.Layouts.{layout, LaidOut}
 use Rattle.code.proofs.Turns.{err-not-ok}
 use Rattle.reading.specs.declared.counter.Counter.{Counter}
-use Rattle.reading.specs.declared.counts.CountFault.{CountFault}
-use Rattle.reading.specs.declared.counts.CountFault.the-variants.{NoSuchIngredient}
 use Rattle.reading.specs.Counters.{after-node}
-use Rattle.reading.specs.Counts.{occurring, counter-of, counted}
+use Rattle.reading.specs.Counts.{occurring}
 
 abbrev counter : ℕ → ℕ → Counter
 counter i k = record { ingredient = i; found = k }
@@ -50,21 +47,17 @@ counts-term i k n s (application t u) h =
     ∙ counts-term i (k + occurrences i t) (suc n + size t) right u (omega (arith, occurrences-le i t))
     ∙ ap (counter i) sum
 
-made : (b : Bool) (c d : Counter) (e : CountFault) → Ok c ≡ cond b (Ok d) (Err e) → (b ≡ true) × (c ≡ d)
-made true c d e h = (refl, cc)
-made false c d e h = absurd (err-not-ok (sym h))
-
--- what a count finds in an accepted code, by a counter that was made for it
-pub found : (bs : List ℕ) (i n : ℕ) (start end : Counter) → Ok start ≡ counter-of i → Ok n ≡ told (verdict bs) → AcceptsExactly bs → LaidOut bs → end ≡ folded after-node start (handed-over bs) → Ok (end .found) ≡ counted bs i
-found bs i n start end new ok exact laid is = go (verdict bs) refl
+-- what a counter that begins at 0 finds in an accepted code
+pub found : (bs : List ℕ) (n : ℕ) (start end : Counter) → start .found ≡ 0 → Ok n ≡ told (verdict bs) → AcceptsExactly bs → LaidOut bs → end ≡ folded after-node start (handed-over bs) → Ok (end .found) ≡ occurring (start .ingredient) (verdict bs)
+found bs n start end zero ok exact laid is = go (verdict bs) refl
   where
-    begun : (leb i last-ingredient ≡ true) × (start ≡ counter i 0)
-    begun = made (leb i last-ingredient) start (counter i 0) NoSuchIngredient new
+    i : ℕ
+    i = start .ingredient
 
-    go : (v : Verdict) → verdict bs ≡ v → Ok (end .found) ≡ counted bs i
+    go : (v : Verdict) → verdict bs ≡ v → Ok (end .found) ≡ occurring (start .ingredient) (verdict bs)
     go (accepted t) e =
         let small = exact t .0 e .1 .small in
         let none : 0 + occurrences i t ≡ occurrences i t = omega arith in
-        let all = is ∙ (λ x. folded after-node (begun .1 x) (laid t e x)) ∙ counts-term i 0 0 root t (omega arith) ∙ ap (counter i) none in
-        ap (λ c. Ok (c .found)) all ∙ sym (ap (occurring i) e) ∙ sym (cond-true (leb i last-ingredient) (occurring i (verdict bs)) (Err NoSuchIngredient) (begun .0))
+        let all = is ∙ (λ x. folded after-node (counter i (zero x)) (laid t e x)) ∙ counts-term i 0 0 root t (omega arith) ∙ ap (counter i) none in
+        ap (λ c. Ok (c .found)) all ∙ sym (ap (occurring i) e)
     go (refused f) e = absurd (err-not-ok (sym (ok ∙ ap told e)))

@@ -11,8 +11,8 @@ use Rattle.node.specs.declared.nodes.Spelling.{Spelling}
 use Rattle.node.specs.declared.nodes.Located.{Located}
 use Rattle.node.specs.declared.faults.Fault.{Fault}
 use Rattle.term.specs.Terms.{most-nodes}
-use Rattle.code.specs.Spell.{spell, width}
-use Rattle.code.specs.Checks.{judged}
+use Rattle.node.specs.Spell.{spell, width}
+use Rattle.node.specs.Checks.{judged}
 use Rattle.code.specs.Scans.{Slot, Scan, root, located, parts-of, finish, next, scan, reading}
 use Rattle.code.proofs.Turns.{judged-ok, onward, goes-on, stops, spells, spelled-width}
 use Rattle.reading.specs.declared.frontier.Frontier.{Frontier}

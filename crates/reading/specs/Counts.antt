@@ -5,21 +5,26 @@ use Prim.Native.Nat.{ℕ}
 use lib.Dec.{leb}
 use Rattle.std.specs.declared.result.Result.{Result}
 use Rattle.std.specs.declared.result.Result.the-variants.{Ok, Err}
+use Rattle.node.specs.declared.faults.Fault.{Fault}
 use Rattle.term.specs.Terms.{occurrences, last-ingredient}
 use Rattle.code.specs.Verdicts.{Verdict, verdict, accepted, refused}
 use Rattle.reading.specs.declared.counter.Counter.{Counter}
 use Rattle.reading.specs.declared.counts.CountFault.{CountFault}
 use Rattle.reading.specs.declared.counts.CountFault.the-variants.{NoSuchIngredient, Code}
 
--- of an ingredient in a code that was judged
-abbrev pub occurring : ℕ → Verdict → Result ℕ CountFault
-occurring i (accepted t) = Ok (occurrences i t)
-occurring i (refused f) = Err (Code f)
-
 -- a counter of an ingredient that a recipe can have
 abbrev pub counter-of : ℕ → Result Counter CountFault
 counter-of i = cond (leb i last-ingredient) (Ok (record { ingredient = i; found = 0 })) (Err NoSuchIngredient)
 
+-- how often the ingredient i occurs in a code with that verdict
+abbrev pub occurring : ℕ → Verdict → Result ℕ Fault
+occurring i (accepted t) = Ok (occurrences i t)
+occurring i (refused f) = Err f
+
+abbrev pub in-code : Result ℕ Fault → Result ℕ CountFault
+in-code (Ok n) = Ok n
+in-code (Err f) = Err (Code f)
+
 -- the ingredient is looked at first, then the code
 abbrev pub counted : List ℕ → ℕ → Result ℕ CountFault
-counted bs i = cond (leb i last-ingredient) (occurring i (verdict bs)) (Err NoSuchIngredient)
+counted bs i = cond (leb i last-ingredient) (in-code (occurring i (verdict bs))) (Err NoSuchIngredient)

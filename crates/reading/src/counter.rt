@@ -2,10 +2,13 @@ ghost use mathlib.Core.Path.{_≡_};
 ghost use Rattle.node.specs.declared.nodes.Located.{Located};
 ghost use Rattle.reading.specs.declared.counter.Counter.{Counter};
 ghost use Rattle.reading.specs.Counters.{after-node};
-ghost use Rattle.reading.specs.Counts.{counter-of};
-use crate::checks::LAST_INGREDIENT;
+ghost use Rattle.code.specs.Verdicts.{verdict};
+ghost use Rattle.reading.specs.Counts.{occurring, counter-of};
 use crate::counts::CountFault;
+use crate::reads::read;
 use crate::receiver::Receiver;
+use node::Fault;
+use node::LAST_INGREDIENT;
 use node::Located;
 use node::Node;
 
@@ -29,11 +32,13 @@ impl Counter {
         })
     }
 
-    // How many of the nodes so far.
-    pub(crate) fn found(&self) -> u16
-        ensures { λ r. ⌜ r ≡ now (self .entry) .found ⌝ }
+    // How many nodes of a whole code hold the ingredient.
+    pub(crate) fn over(mut self, code: &[u8]) -> Result<u16, Fault>
+        requires { ⌜ self .found ≡ 0 ⌝ }
+        ensures { λ r. ⌜ r ≡ occurring (self .ingredient) (verdict (now (code .entry))) ⌝ }
     {
-        self.found
+        read(&mut self, &mut (), code)?;
+        Ok(self.found)
     }
 }
 

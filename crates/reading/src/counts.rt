@@ -4,8 +4,6 @@ ghost use Rattle.reading.specs.declared.counts.CountFault.{CountFault};
 ghost use Rattle.reading.specs.CountFaults.{count-number, from-code};
 ghost use Rattle.reading.specs.Counts.{counted};
 use crate::counter::Counter;
-use crate::counter::CountingReceiver;
-use crate::reads::read;
 use node::Fault;
 use node::FaultDebug;
 use node::FaultPartialEq;
@@ -40,7 +38,7 @@ pub impl From<Fault> for CountFault as FaultOfCount {
 pub fn count(code: &[u8], ingredient: u16) -> Result<u16, CountFault>
     ensures { λ r. ⌜ r ≡ counted (now (code .entry)) ingredient ⌝ }
 {
-    let mut counter = Counter::new(ingredient)?;
-    read(&mut counter, &mut (), code)?;
-    Ok(counter.found())
+    let counter = Counter::new(ingredient)?;
+    let found = counter.over(code)?;
+    Ok(found)
 }

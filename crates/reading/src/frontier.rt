@@ -3,7 +3,7 @@ ghost use mathlib.Core.List.{[], _∷_};
 ghost use Prim.Native.Nat.{_+_, _≤_, _<_};
 ghost use Rattle.std.specs.Options.{Cases};
 ghost use Rattle.node.specs.declared.nodes.Part.the-variants.{Left, Right, Body};
-ghost use Rattle.code.specs.Checks.{Fitting};
+ghost use Rattle.node.specs.Checks.{Fitting};
 ghost use Rattle.code.specs.Scans.{root, located};
 ghost use Rattle.reading.specs.Frontiers.{slot-of, slots, Falling, Popped, Opened};
 use node::Located;

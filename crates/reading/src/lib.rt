@@ -1,13 +1,10 @@
 // The one reading of a code, for any receiver of its nodes, and the count of an ingredient.
-mod checks;
 mod counter;
 mod counts;
 mod frontier;
 mod reads;
 mod receiver;
-mod spells;
 
-pub use checks::admit;
 pub use counts::CountFault;
 pub use counts::CountFaultDebug;
 pub use counts::CountFaultPartialEq;

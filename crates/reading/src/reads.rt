@@ -5,12 +5,12 @@ ghost use lib.ListN.{length};
 ghost use Rattle.code.specs.Scans.{finish as finished, handed-over};
 ghost use Rattle.code.specs.Verdicts.{verdict, told, AcceptsExactly, RoundTrip};
 ghost use Rattle.code.specs.Layouts.{LaidOut};
-use crate::checks::judge;
 use crate::frontier::Frontier;
 use crate::receiver::Receiver;
-use crate::spells::spell;
-use crate::spells::width;
 use node::Fault;
+use node::judge;
+use node::spell;
+use node::width;
 
 // The answer where nothing more is to come.
 fn finish(end: usize, number: u16, rest: &[u8]) -> Result<u16, Fault>

@@ -1,5 +1,5 @@
 use mathlib.Core.Path.{sym, ap, subst, _∙_}
-use Rattle.code.specs.Checks.{Fitting}
+use Rattle.node.specs.Checks.{Fitting}
 use Rattle.code.specs.Scans.{located}
 use Rattle.reading.proofs.Stacks.{place-located, other-located}
 use Rattle.reading.proofs.frontier.Frontier.locate.Needs as need

@@ -1,6 +1,6 @@
 use mathlib.Core.Path.{refl, ap, subst}
 use native.Mathlib.Omega.{arith}
-use Rattle.code.specs.Checks.{Fitting}
+use Rattle.node.specs.Checks.{Fitting}
 use Rattle.reading.specs.Frontiers.{slot-of}
 use Rattle.reading.proofs.Stacks.{falling-weaker, sides-opened, body-opened, none-opened}
 use Rattle.reading.proofs.frontier.Frontier.open.Needs as need

@@ -1,10 +1,10 @@
 ghost use mathlib.Core.Path.{_≡_};
-ghost use Rattle.code.specs.Spell.{spell as spelling, width as bytes};
-use node::Node;
-use node::Spelling;
+ghost use Rattle.node.specs.Spell.{spell as spelling, width as bytes};
+use crate::nodes::Node;
+use crate::nodes::Spelling;
 
 // What the bytes at the front spell.
-pub(crate) fn spell(bytes: &[u8]) -> Spelling
+pub fn spell(bytes: &[u8]) -> Spelling
     ensures { λ r. ⌜ r ≡ spelling (now (bytes .entry)) ⌝ }
 {
     match bytes {
@@ -19,7 +19,7 @@ pub(crate) fn spell(bytes: &[u8]) -> Spelling
 }
 
 // How many bytes spell a node.
-pub(crate) fn width(node: Node) -> usize
+pub fn width(node: Node) -> usize
     ensures { λ r. ⌜ r ≡ bytes node ⌝ }
 {
     match node {

@@ -1,14 +1,14 @@
 ghost use mathlib.Core.Path.{_≡_};
-ghost use Rattle.code.specs.Checks.{admitted, judged};
-use node::Fault;
-use node::Node;
-use node::Spelling;
+ghost use Rattle.node.specs.Checks.{admitted, judged};
+use crate::faults::Fault;
+use crate::nodes::Node;
+use crate::nodes::Spelling;
 
 const MOST_NODES: u16 = 4096;
 
 const MOST_NESTED: u8 = 128;
 
-pub(crate) const LAST_INGREDIENT: u16 = 4095;
+pub const LAST_INGREDIENT: u16 = 4095;
 
 // The checks at a node that `number` nodes come before, under `depth` functions, whose code begins at byte `at`.
 pub fn admit(at: usize, number: u16, depth: u8, node: Node) -> Result<Node, Fault>
@@ -26,7 +26,7 @@ pub fn admit(at: usize, number: u16, depth: u8, node: Node) -> Result<Node, Faul
 }
 
 // All checks at what the bytes from `at` on spell, in a code of `end` bytes.
-pub(crate) fn judge(
+pub fn judge(
     end: usize,
     at: usize,
     number: u16,
