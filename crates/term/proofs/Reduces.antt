@@ -1,5 +1,5 @@
 -- The laws of weak head reduction. Assumes nothing.
-use mathlib.Core.Path.{_≡_, refl, ap}
+use mathlib.Core.Path.{_≡_, refl, ap, subst}
 use mathlib.Core.Bool.{true, false, cond}
 use mathlib.Core.Logic.{_⊎_, inl, inr}
 use Prim.Native.Nat.{ℕ, suc, _≤_}
@@ -7,7 +7,7 @@ use native.Mathlib.Omega.{arith}
 use lib.Dec.{eqb}
 use borrow.Author.Tests.{eqb-false}
 use Rattle.term.specs.Terms.{Term, place, ingredient, function, application, Covered, Closed, fill}
-use Rattle.term.specs.Reduction.{Step, beta, left, Neutral, bare, applied, Normal, abstraction, neutral, AtMostOneStep, NormalOrSteps, NormalStays, StepKeepsClosed}
+use Rattle.term.specs.Reduction.{Step, beta, left, Steps, none, more, Neutral, bare, applied, Normal, abstraction, neutral, AtMostOneStep, StepsAgree, NormalOrSteps, NormalStays, StepKeepsClosed, StepsKeepClosed}
 
 function-stays : {t u : Term} → Step (function t) u → ⊥
 function-stays s = elim s [ ]
@@ -17,6 +17,11 @@ at-most-one t u v beta beta = refl
 at-most-one t u v beta (left q) = absurd (function-stays q)
 at-most-one t u v (left p) beta = absurd (function-stays p)
 at-most-one _ _ _ (left {t = a} {t′ = b} {u = u} p) (left {t′ = c} q) = ap (λ x. application x u) (at-most-one a b c p q)
+
+pub steps-agree : StepsAgree
+steps-agree _ t _ _ none none = refl
+steps-agree _ t u v (more {n = n} {u = a} p ps) (more {u = b} q qs) =
+    steps-agree n b u v (subst (λ x. Steps n x u) (at-most-one t a b p q) ps) qs
 
 neutral-stays : (t u : Term) → Neutral t → Step t u → ⊥
 neutral-stays t u bare s = elim s [ ]
@@ -56,3 +61,7 @@ fill-covered (application t v) u i cu c = (fill-covered t u i cu (c .0), fill-co
 pub step-keeps-closed : StepKeepsClosed
 step-keeps-closed _ _ c (beta {t = t} {u = u}) = fill-covered t u 0 (c .1) (c .0)
 step-keeps-closed _ _ c (left {t = t} {t′ = v} s) = (step-keeps-closed t v (c .0) s, c .1)
+
+pub steps-keep-closed : StepsKeepClosed
+steps-keep-closed _ t u c none = c
+steps-keep-closed _ t u c (more {n = n} {u = v} s ss) = steps-keep-closed n v u (step-keeps-closed t v c s) ss

@@ -28,6 +28,10 @@ pub data Normal : Term → Type 0 where
 abbrev pub AtMostOneStep : Type 0
 AtMostOneStep = (t u v : Term) → Step t u → Step t v → u ≡ v
 
+-- so n steps lead to one term at most
+abbrev pub StepsAgree : Type 0
+StepsAgree = (n : ℕ) (t u v : Term) → Steps n t u → Steps n t v → u ≡ v
+
 -- a closed term is normal or has a step
 abbrev pub NormalOrSteps : Type 0
 NormalOrSteps = (t : Term) → Closed t → Normal t ⊎ ((u : Term) × Step t u)
@@ -39,3 +43,7 @@ NormalStays = (t u : Term) → Normal t → Step t u → ⊥
 -- a step keeps a term closed
 abbrev pub StepKeepsClosed : Type 0
 StepKeepsClosed = (t u : Term) → Closed t → Step t u → Closed u
+
+-- and so do n steps
+abbrev pub StepsKeepClosed : Type 0
+StepsKeepClosed = (n : ℕ) (t u : Term) → Closed t → Steps n t u → Closed u

@@ -1,9 +1,10 @@
 // Terms, their codes and weak head reduction are definitions of specs/; here stand the laws of the reduction.
-ghost use Rattle.term.specs.Reduction.{AtMostOneStep, NormalOrSteps, NormalStays, StepKeepsClosed};
+ghost use Rattle.term.specs.Reduction.{AtMostOneStep, StepsAgree, NormalOrSteps, NormalStays, StepKeepsClosed, StepsKeepClosed};
 
 // A term has at most one step.
 pub fn at_most_one_step()
-    ensures { λ _. ⌜ AtMostOneStep ⌝ }
+    ensures one { λ _. ⌜ AtMostOneStep ⌝ }
+    ensures many { λ _. ⌜ StepsAgree ⌝ }
 {}
 
 // A closed term is normal or has a step, and not both.
@@ -14,5 +15,6 @@ pub fn normal_or_steps()
 
 // A step keeps a term closed.
 pub fn step_keeps_closed()
-    ensures { λ _. ⌜ StepKeepsClosed ⌝ }
+    ensures one { λ _. ⌜ StepKeepsClosed ⌝ }
+    ensures many { λ _. ⌜ StepsKeepClosed ⌝ }
 {}

@@ -4,4 +4,6 @@ mod codes;
 #[cfg(test)]
 mod counting;
 #[cfg(test)]
+mod handing;
+#[cfg(test)]
 mod limits;

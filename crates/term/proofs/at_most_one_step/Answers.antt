@@ -1,5 +1,5 @@
-use Rattle.term.proofs.Reduces.{at-most-one}
+use Rattle.term.proofs.Reduces as laws
 use Rattle.term.proofs.at_most_one_step.Needs as need
 
 pub returns : need.returns
-returns c = at-most-one
+returns c = record { one = laws.at-most-one; many = laws.steps-agree }
