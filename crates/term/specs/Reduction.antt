@@ -24,26 +24,17 @@ pub data Normal : Term → Type 0 where
   abstraction : {t : Term} → Normal (function t)
   neutral : {t : Term} → Neutral t → Normal t
 
--- a term has at most one step
-abbrev pub AtMostOneStep : Type 0
-AtMostOneStep = (t u v : Term) → Step t u → Step t v → u ≡ v
+-- a term has at most one step, and so n steps lead to one term at most
+pub record AtMostOneStep : Type 0 where
+  pub one : (t u v : Term) → Step t u → Step t v → u ≡ v
+  pub many : (n : ℕ) (t u v : Term) → Steps n t u → Steps n t v → u ≡ v
 
--- so n steps lead to one term at most
-abbrev pub StepsAgree : Type 0
-StepsAgree = (n : ℕ) (t u v : Term) → Steps n t u → Steps n t v → u ≡ v
+-- a closed term is normal or has a step, and not both
+pub record NormalOrSteps : Type 0 where
+  pub either : (t : Term) → Closed t → Normal t ⊎ ((u : Term) × Step t u)
+  pub never-both : (t u : Term) → Normal t → Step t u → ⊥
 
--- a closed term is normal or has a step
-abbrev pub NormalOrSteps : Type 0
-NormalOrSteps = (t : Term) → Closed t → Normal t ⊎ ((u : Term) × Step t u)
-
--- a normal term has no step
-abbrev pub NormalStays : Type 0
-NormalStays = (t u : Term) → Normal t → Step t u → ⊥
-
--- a step keeps a term closed
-abbrev pub StepKeepsClosed : Type 0
-StepKeepsClosed = (t u : Term) → Closed t → Step t u → Closed u
-
--- and so do n steps
-abbrev pub StepsKeepClosed : Type 0
-StepsKeepClosed = (n : ℕ) (t u : Term) → Closed t → Steps n t u → Closed u
+-- a step, and so n steps, keep a term closed
+pub record StepKeepsClosed : Type 0 where
+  pub one : (t u : Term) → Closed t → Step t u → Closed u
+  pub many : (n : ℕ) (t u : Term) → Closed t → Steps n t u → Closed u

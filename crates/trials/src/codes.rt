@@ -7,7 +7,7 @@ use reading::read;
 use std::test::*;
 
 // The size of a code's term, or its fault.
-pub fn read_size(code: &[u8]) -> Result<u16, Fault> {
+pub(crate) fn read_size(code: &[u8]) -> Result<u16, Fault> {
     read(&mut (), &mut (), code)
 }
 

@@ -2,4 +2,4 @@ use Rattle.term.proofs.Reduces as laws
 use Rattle.term.proofs.at_most_one_step.Needs as need
 
 pub returns : need.returns
-returns c = record { one = laws.at-most-one; many = laws.steps-agree }
+returns c = laws.at-most-one-step

@@ -2,4 +2,4 @@ use Rattle.term.proofs.Reduces as laws
 use Rattle.term.proofs.normal_or_steps.Needs as need
 
 pub returns : need.returns
-returns c = record { either = laws.normal-or-steps; never-both = laws.normal-stays }
+returns c = laws.normal-or-steps

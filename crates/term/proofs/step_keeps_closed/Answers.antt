@@ -2,4 +2,4 @@ use Rattle.term.proofs.Reduces as laws
 use Rattle.term.proofs.step_keeps_closed.Needs as need
 
 pub returns : need.returns
-returns c = record { one = laws.step-keeps-closed; many = laws.steps-keep-closed }
+returns c = laws.step-keeps-closed
