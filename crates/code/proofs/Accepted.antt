@@ -1,7 +1,7 @@
 -- What is accepted is the code of terms that fit. Assumes nothing.
 use mathlib.Core.Path.{_≡_, refl, sym, ap, subst, _∙_}
-use mathlib.Core.List.{List, [], _∷_, _++_, append-assoc}
-use Prim.Native.Nat.{ℕ, zero, suc, _+_, _-_, _*_, _/_, _%_, _≤_, _<_}
+use mathlib.Core.List.{List, [], _∷_, append-assoc}
+use Prim.Native.Nat.{ℕ, zero, suc, _+_, _/_, _%_, _≤_, _<_}
 use native.Mathlib.Omega.{arith}
 use lib.ListN.{length, getD, drop}
 use lib.Seq.{getD-drop}
@@ -11,13 +11,13 @@ use Rattle.std.specs.declared.result.Result.the-variants.{Ok, Err}
 use Rattle.node.specs.declared.nodes.Node.{Node}
 use Rattle.node.specs.declared.nodes.Node.the-variants.{Application, Function, Place, Ingredient}
 use Rattle.node.specs.declared.faults.Fault.{Fault}
-use Rattle.term.specs.Terms.{Term, place, ingredient, function, application, size, code}
-use Rattle.node.specs.Spell.{spell, width}
-use Rattle.node.specs.Checks.{Fitting, judged}
-use Rattle.code.specs.Scans.{Slot, located, parts-of, next, scan}
+use Rattle.term.specs.Terms.{Term, code}
+use Rattle.node.specs.Spell.{width}
+use Rattle.node.specs.Checks.{Fitting}
+use Rattle.code.specs.Scans.{Slot, parts-of, next, scan}
 use Rattle.code.specs.Verdicts.{joined-to, terms}
-use Rattle.code.proofs.Turns.{err-not-ok, Admitted, judged-ok, onward, goes-on, stops, Spells, spells}
-use Rattle.code.proofs.Lists.{Bytes, Fit, Fits, sizes}
+use Rattle.code.proofs.Turns.{err-not-ok, judged-ok, onward, goes-on, stops, Spells, spells}
+use Rattle.code.proofs.Lists.{Bytes, Fits, sizes}
 
 -- bs spells terms for the slots, with k nodes up to the last of them, of which m and no more lie in the terms
 pub record Sound (m n : ℕ) (ss : List Slot) (bs : List ℕ) (k : ℕ) (ts : List Term) : Type 0 where

@@ -3,9 +3,7 @@ use mathlib.Core.Path.{_≡_, refl, sym, ap, subst, _∙_}
 use mathlib.Core.List.{List, [], _∷_, _++_, append-nil, append-assoc}
 use Prim.Native.Nat.{ℕ, suc, _+_}
 use native.Mathlib.Omega.{arith}
-use native.Mathlib.Nat.{zero-add}
 use lib.ListN.{length}
-use Rattle.std.specs.Joined.{joined}
 use Rattle.std.specs.declared.result.Result.{Result}
 use Rattle.std.specs.declared.result.Result.the-variants.{Ok, Err}
 use Rattle.node.specs.declared.nodes.Node.the-variants.{Application, Function}
@@ -13,10 +11,10 @@ use Rattle.node.specs.declared.nodes.Part.the-variants.{Left, Right, Body}
 use Rattle.node.specs.declared.nodes.Located.{Located}
 use Rattle.node.specs.declared.faults.Fault.{Fault}
 use Rattle.term.specs.Terms.{Term, place, ingredient, function, application, size, code, Recipe, most-nodes}
-use Rattle.code.specs.Scans.{Slot, Scan, root, located, scan, reading}
-use Rattle.code.specs.Verdicts.{Verdict, accepted, refused, joined-to, terms, first, judgement, verdict, told, AcceptsExactly, RoundTrip}
+use Rattle.code.specs.Scans.{Slot, root, scan, reading}
+use Rattle.code.specs.Verdicts.{accepted, refused, joined-to, terms, first, judgement, verdict, told, AcceptsExactly, RoundTrip}
 use Rattle.code.specs.Layouts.{layout, LaidOut}
-use Rattle.code.proofs.Lists.{Bytes, Fit, Fits, sizes, layouts}
+use Rattle.code.proofs.Lists.{Bytes, Fits}
 use Rattle.code.proofs.Accepted.{Sound, sound}
 use Rattle.code.proofs.Recipes.{complete}
 

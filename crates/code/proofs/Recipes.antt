@@ -1,11 +1,9 @@
 -- The code of terms that fit is accepted, and handed over as they are laid out. Assumes nothing.
-use mathlib.Core.Path.{_≡_, refl, sym, ap, subst, _∙_}
-use mathlib.Core.Bool.{true, false, cond}
+use mathlib.Core.Path.{_≡_, refl, sym, ap, _∙_}
 use mathlib.Core.List.{List, [], _∷_, _++_, append-assoc}
 use Prim.Native.Nat.{ℕ, zero, suc, _+_, _-_, _*_, _/_, _%_, _≤_, _<_}
 use native.Mathlib.Omega.{arith}
-use lib.Dec.{ltb}
-use lib.ListN.{length, drop}
+use lib.ListN.{length}
 use borrow.Author.Tests.{lt-ltb, le-leb}
 use Rattle.std.specs.Joined.{joined}
 use Rattle.std.specs.declared.result.Result.the-variants.{Ok}
@@ -17,7 +15,7 @@ use Rattle.node.specs.declared.nodes.Spelling.the-variants.{Spelled}
 use Rattle.node.specs.declared.nodes.Part.the-variants.{Left, Right}
 use Rattle.node.specs.Spell.{spell}
 use Rattle.node.specs.Checks.{Fitting, admitted, judged}
-use Rattle.code.specs.Scans.{Slot, Scan, located, parts-of, next, scan}
+use Rattle.code.specs.Scans.{Slot, Scan, located, parts-of, scan}
 use Rattle.code.specs.Layouts.{layout}
 use Rattle.code.proofs.Turns.{onward, goes-on}
 use Rattle.code.proofs.Lists.{Fit, Fits, sizes, layouts}

@@ -17,7 +17,7 @@ use Rattle.node.specs.declared.nodes.Spelling.the-variants.{Nothing, Unknown, C
 use Rattle.node.specs.declared.faults.Fault.{Fault}
 use Rattle.term.specs.Terms.{most-nodes}
 use Rattle.node.specs.Spell.{spell, spell-place, spell-ingredient, width}
-use Rattle.node.specs.Checks.{Fitting, fitted, admitted, judged}
+use Rattle.node.specs.Checks.{Fitting, fitted, judged}
 use Rattle.code.specs.Scans.{Slot, Scan, located, parts-of, next, scan}
 
 pub err-not-ok : {A E : Type 0} {a : A} {e : E} → _≡_ {A = Result A E} (Err e) (Ok a) → ⊥
