@@ -1,21 +1,24 @@
--- What a write to the table of binders, or above a stack of openings, leaves. Assumes nothing.
-use mathlib.Core.Path.{_≡_, refl, ap, _∙_}
+-- What a write to the table of binders, or above a stack of right sides, leaves. Assumes nothing.
+use mathlib.Core.Path.{_≡_, refl, sym, ap, subst, _∙_}
 use mathlib.Core.Logic.{_≢_, _⊎_, inl, inr}
-use mathlib.Core.List.{List, _∷_}
+use mathlib.Core.List.{List, [], _∷_}
 use Prim.Native.Nat.{ℕ, zero, suc, _+_, _-_, _≤_, _<_}
 use native.Mathlib.Omega.{arith}
 use lib.ListN.{length, getD, set}
 use lib.Seq.{getD-set-same, getD-set-other}
 use native.Mathlib.Numerals.{add-one}
+use Rattle.std.specs.Options.{Cases}
+use Rattle.std.specs.declared.option.Option.{Option}
 use Rattle.std.specs.declared.option.Option.the-variants.{Some, None}
 use Rattle.node.specs.declared.nodes.Node.{Node}
 use Rattle.node.specs.declared.nodes.Node.the-variants.{Application, Function, Place, Ingredient}
 use Rattle.node.specs.declared.nodes.Located.{Located}
 use Rattle.node.specs.declared.nodes.Part.the-variants.{Left, Right, Body}
+use Rattle.term.specs.Terms.{most-nested}
 use Rattle.code.specs.Scans.{Slot, located, parts-of}
 use Rattle.reading.specs.declared.frontier.Opening.{Opening}
 use Rattle.reading.specs.declared.frontier.Frontier.{Frontier}
-use Rattle.reading.specs.Frontiers.{blank, around, slot-of, stacked, slots, Falling}
+use Rattle.reading.specs.Frontiers.{around, slot-of, stacked, waiting, Falling, Popped, Opened}
 
 pub length-around : (bs : List ℕ) (d : ℕ) → length (around bs d) ≡ d
 length-around bs zero = refl
@@ -26,7 +29,7 @@ getD-around bs zero k h = absurd (omega arith)
 getD-around bs (suc d) zero h = ap (λ i. getD bs i 0) (omega arith)
 getD-around bs (suc d) (suc k) h = getD-around bs d k (omega arith) ∙ ap (λ i. getD bs i 0) (omega arith)
 
-pub around-set : (bs : List ℕ) (e v d : ℕ) → d ≤ e → around (set bs e v) d ≡ around bs d
+around-set : (bs : List ℕ) (e v d : ℕ) → d ≤ e → around (set bs e v) d ≡ around bs d
 around-set bs e v zero h = refl
 around-set bs e v (suc d) h =
     let ne : d ≢ e = omega arith in
@@ -34,50 +37,58 @@ around-set bs e v (suc d) h =
     let below = around-set bs e v d (omega arith) in
     cc
 
-pub falling-weaker : (os : List Opening) (k d e : ℕ) → d ≤ e → Falling os k d → Falling os k e
-falling-weaker os zero d e h f = tt
-falling-weaker os (suc k) d e h f = (omega arith, f .1)
+pub falling-weaker : (ds : List ℕ) (k d e : ℕ) → d ≤ e → Falling ds k d → Falling ds k e
+falling-weaker ds zero d e h f = tt
+falling-weaker ds (suc k) d e h f = (omega arith, f .1)
 
-pub falling-set : (os : List Opening) (j : ℕ) (o : Opening) (k d : ℕ) → k ≤ j → Falling os k d → Falling (set os j o) k d
-falling-set os j o zero d h f = tt
-falling-set os j o (suc k) d h f =
+falling-set : (ds : List ℕ) (j v k d : ℕ) → k ≤ j → Falling ds k d → Falling (set ds j v) k d
+falling-set ds j v zero d h f = tt
+falling-set ds j v (suc k) d h f =
     let ne : k ≢ j = omega arith in
-    rw getD-set-other (f .0, falling-set os j o k _ (omega arith) (f .1))
+    rw getD-set-other (f .0, falling-set ds j v k _ (omega arith) (f .1))
 
-pub stacked-set : (os : List Opening) (bs : List ℕ) (j : ℕ) (o : Opening) (k : ℕ) → k ≤ j → stacked (set os j o) bs k ≡ stacked os bs k
-stacked-set os bs j o zero h = refl
-stacked-set os bs j o (suc k) h =
+stacked-set : (ns ds bs : List ℕ) (j a d k : ℕ) → k ≤ j → stacked (set ns j a) (set ds j d) bs k ≡ stacked ns ds bs k
+stacked-set ns ds bs j a d zero h = refl
+stacked-set ns ds bs j a d (suc k) h =
     let ne : k ≢ j = omega arith in
-    let here = getD-set-other os j k o blank ne in
-    let below = stacked-set os bs j o k (omega arith) in
+    let number = getD-set-other ns j k a 0 ne in
+    let depth = getD-set-other ds j k d 0 ne in
+    let below = stacked-set ns ds bs j a d k (omega arith) in
     cc
 
-pub stacked-binders : (os : List Opening) (bs : List ℕ) (e v k d : ℕ) → d ≤ e → Falling os k d → stacked os (set bs e v) k ≡ stacked os bs k
-stacked-binders os bs e v zero d h f = refl
-stacked-binders os bs e v (suc k) d h f =
-    let here = around-set bs e v (getD os k blank .depth) (omega arith) in
-    let below = stacked-binders os bs e v k _ (omega arith) (f .1) in
+stacked-binders : (ns ds bs : List ℕ) (e v k d : ℕ) → d ≤ e → Falling ds k d → stacked ns ds (set bs e v) k ≡ stacked ns ds bs k
+stacked-binders ns ds bs e v zero d h f = refl
+stacked-binders ns ds bs e v (suc k) d h f =
+    let here = around-set bs e v (getD ds k 0) (omega arith) in
+    let below = stacked-binders ns ds bs e v k _ (omega arith) (f .1) in
     cc
 
--- the topmost of k openings
-pub top : (os : List Opening) (bs : List ℕ) (k : ℕ) → 0 < k → stacked os bs k ≡ slot-of bs (getD os (k - 1) blank) ∷ stacked os bs (k - 1)
-top os bs zero h = absurd (omega arith)
-top os bs (suc k) h = let e : suc k - 1 ≡ k = omega arith in rw e refl
+-- one right side more
+pub pushed : (ns ds bs : List ℕ) (k a d : ℕ) → k < length ns → k < length ds → stacked (set ns k a) (set ds k d) bs (suc k) ≡ record { part = Right a; around = around bs d } ∷ stacked ns ds bs k
+pushed ns ds bs k a d h l = rw (getD-set-same ns k a 0 h, getD-set-same ds k d 0 l, stacked-set ns ds bs k a d k (omega arith)) refl
 
-pub falling-top : (os : List Opening) (k d : ℕ) → 0 < k → Falling os k d → (getD os (k - 1) blank .depth ≤ d) × Falling os (k - 1) (getD os (k - 1) blank .depth)
-falling-top os zero d h f = absurd (omega arith)
-falling-top os (suc k) d h f = let e : suc k - 1 ≡ k = omega arith in rw e f
+pub falling-pushed : (ds : List ℕ) (k d : ℕ) → k < length ds → Falling ds k d → Falling (set ds k d) (suc k) d
+falling-pushed ds k d h f = rw (getD-set-same ds k d 0 h) (omega arith, falling-set ds k d k d (omega arith) f)
 
--- one more opening
-pub pushed : (os : List Opening) (bs : List ℕ) (k : ℕ) (o : Opening) → k < length os → stacked (set os k o) bs (suc k) ≡ slot-of bs o ∷ stacked os bs k
-pushed os bs k o h = rw (getD-set-same os k o blank h, stacked-set os bs k o k (omega arith)) refl
+-- one less
+top : (ns ds bs : List ℕ) (k : ℕ) → 0 < k → stacked ns ds bs k ≡ record { part = Right (getD ns (k - 1) 0); around = around bs (getD ds (k - 1) 0) } ∷ stacked ns ds bs (k - 1)
+top ns ds bs zero h = absurd (omega arith)
+top ns ds bs (suc k) h = let e : suc k - 1 ≡ k = omega arith in rw e refl
 
-pub falling-pushed : (os : List Opening) (k : ℕ) (o : Opening) (d : ℕ) → k < length os → o .depth ≤ d → Falling os k (o .depth) → Falling (set os k o) (suc k) d
-falling-pushed os k o d h le f = rw (getD-set-same os k o blank h) (le, falling-set os k o k _ (omega arith) f)
+falling-top : (ds : List ℕ) (k d : ℕ) → 0 < k → Falling ds k d → (getD ds (k - 1) 0 ≤ d) × Falling ds (k - 1) (getD ds (k - 1) 0)
+falling-top ds zero d h f = absurd (omega arith)
+falling-top ds (suc k) d h f = let e : suc k - 1 ≡ k = omega arith in rw e f
 
--- the table with one binder more
-pub bound : (bs : List ℕ) (d v : ℕ) → d < length bs → around (set bs d v) (d + 1) ≡ v ∷ around bs d
-bound bs d v h = rw (add-one, getD-set-same bs d v 0 h, around-set bs d v d (omega arith)) refl
+-- a frontier with one right side less
+abbrev lowered : Frontier → Frontier
+lowered f = record { applications = f .applications; depths = f .depths; count = f .count - 1; binders = f .binders }
+
+pub popped : (f : Frontier) (o : Opening) → 0 < f .count → o ≡ record { part = Right (getD (f .applications) (f .count - 1) 0); depth = getD (f .depths) (f .count - 1) 0 } → Popped f (lowered f) o
+popped f o some is =
+    record {
+      slots = top (f .applications) (f .depths) (f .binders) (f .count) some ∙ ap (λ x. slot-of (f .binders) x ∷ waiting (lowered f)) (sym is);
+      falling = λ d fall. subst (λ x. (x .depth ≤ d) × Falling (f .depths) (f .count - 1) (x .depth)) (sym is) (falling-top (f .depths) (f .count) d some fall);
+    }
 
 -- a place in an opening, as the code makes it
 pub place-located : (bs : List ℕ) (n k : ℕ) (o : Opening) → k < o .depth → _≡_ {A = Located} (record { number = n; node = Place k; depth = o .depth; binder = Some (getD bs (o .depth - 1 - k) 0); part = o .part }) (located n (slot-of bs o) (Place k))
@@ -90,20 +101,27 @@ other-located bs n o Function h = rw (length-around bs (o .depth)) refl
 other-located bs n o (Place k) h = absurd (h k refl)
 other-located bs n o (Ingredient i) h = rw (length-around bs (o .depth)) refl
 
--- the two sides of an application, the right one pushed first
-pub sides-opened : (f g h : Frontier) (n : ℕ) (o : Opening) {node : Node} {l r : Opening} → node ≡ Application → r ≡ record { part = Right n; depth = o .depth } → l ≡ record { part = Left n; depth = o .depth } → g .binders ≡ f .binders → slots g ≡ slot-of (f .binders) r ∷ slots f → slots h ≡ slot-of (g .binders) l ∷ slots g → slots h ≡ parts-of n (slot-of (f .binders) o) node (slots f)
-sides-opened f g h n o e right left same below above =
-    let first : Slot = record { part = Left n; around = around (f .binders) (o .depth) } in
-    rw e (above ∙ (λ i. slot-of (same i) (left i) ∷ below i) ∙ ap (λ x. first ∷ slot-of (f .binders) x ∷ slots f) right)
+-- the two sides of an application: the right one is pushed, the left one comes next
+pub sides-opened : (f g : Frontier) (n : ℕ) (o : Opening) {node : Node} {l : Opening} → node ≡ Application → l ≡ record { part = Left n; depth = o .depth } → g .binders ≡ f .binders → waiting g ≡ slot-of (f .binders) (record { part = Right n; depth = o .depth }) ∷ waiting f → slot-of (g .binders) l ∷ waiting g ≡ parts-of n (slot-of (f .binders) o) node (waiting f)
+sides-opened f g n o e left same below = rw e (λ i. slot-of (same i) (left i) ∷ below i)
 
 -- the body of a function, whose number the table of binders has taken
-pub body-opened : (f g h : Frontier) (n : ℕ) (o : Opening) {node : Node} {b : Opening} → node ≡ Function → b ≡ record { part = Body n; depth = o .depth + 1 } → o .depth < length (f .binders) → Falling (f .openings) (f .count) (o .depth) → g ≡ record { openings = f .openings; count = f .count; binders = set (f .binders) (o .depth) n } → slots h ≡ slot-of (g .binders) b ∷ slots g → slots h ≡ parts-of n (slot-of (f .binders) o) node (slots f)
-body-opened f g h n o e body deep fall is above =
-    let table = bound (f .binders) (o .depth) n deep in
-    let below = stacked-binders (f .openings) (f .binders) (o .depth) n (f .count) (o .depth) (omega arith) fall in
-    rw e (above ∙ (λ i. slot-of (is i .binders) (body i) ∷ slots (is i)) ∙ (λ i. record { part = Body n; around = table i } ∷ below i))
+pub body-opened : (f : Frontier) (n : ℕ) (o : Opening) {node : Node} {b : Opening} → node ≡ Function → b ≡ record { part = Body n; depth = o .depth + 1 } → o .depth < length (f .binders) → Falling (f .depths) (f .count) (o .depth) → slot-of (set (f .binders) (o .depth) n) b ∷ stacked (f .applications) (f .depths) (set (f .binders) (o .depth) n) (f .count) ≡ parts-of n (slot-of (f .binders) o) node (waiting f)
+body-opened f n o e body deep fall =
+    let bs = f .binders in
+    let d = o .depth in
+    let table : around (set bs d n) (d + 1) ≡ n ∷ around bs d = rw (add-one, getD-set-same bs d n 0 deep, around-set bs d n d (omega arith)) refl in
+    let below = stacked-binders (f .applications) (f .depths) bs d n (f .count) d (omega arith) fall in
+    rw e (ap (λ x. slot-of (set bs d n) x ∷ stacked (f .applications) (f .depths) (set bs d n) (f .count)) body ∙ (λ i. record { part = Body n; around = table i } ∷ below i))
 
--- a leaf has no parts
-pub none-opened : (n : ℕ) (s : Slot) (node : Node) (ss : List Slot) → ((k : ℕ) × (node ≡ Place k)) ⊎ ((i : ℕ) × (node ≡ Ingredient i)) → ss ≡ parts-of n s node ss
-none-opened n s node ss (inl h) = rw (h .1) refl
-none-opened n s node ss (inr h) = rw (h .1) refl
+-- a leaf has no parts: the nearest right side comes next, if there is one
+leaf : (n : ℕ) (s : Slot) (node : Node) (ss : List Slot) → ((k : ℕ) × (node ≡ Place k)) ⊎ ((i : ℕ) × (node ≡ Ingredient i)) → ss ≡ parts-of n s node ss
+leaf n s node ss (inl h) = rw (h .1) refl
+leaf n s node ss (inr h) = rw (h .1) refl
+
+pub none-opened : (f g : Frontier) (n : ℕ) (o : Opening) (node : Node) (r : Option Opening) → ((k : ℕ) × (node ≡ Place k)) ⊎ ((i : ℕ) × (node ≡ Ingredient i)) → o .depth ≤ most-nested → Falling (f .depths) (f .count) (o .depth) → g .count ≤ f .count → Cases r (waiting f ≡ []) (Popped f g) → Opened f g n o node r
+none-opened f g n o node None is low fall few h =
+    record { slots = sym h ∙ leaf n (slot-of (f .binders) o) node (waiting f) is; count = omega arith; nested = tt }
+none-opened f g n o node (Some x) is low fall few h =
+    let next = h .falling (o .depth) fall in
+    record { slots = sym (h .slots) ∙ leaf n (slot-of (f .binders) o) node (waiting f) is; count = omega arith; nested = (omega (arith, next .0), next .1) }

@@ -2,10 +2,10 @@ ghost use mathlib.Core.Path.{_≡_};
 ghost use mathlib.Core.List.{[], _∷_};
 ghost use Prim.Native.Nat.{_+_, _≤_, _<_};
 ghost use Rattle.std.specs.Options.{Cases};
-ghost use Rattle.node.specs.declared.nodes.Part.the-variants.{Left, Right, Body};
+ghost use Rattle.node.specs.declared.nodes.Part.the-variants.{Root, Left, Right, Body};
 ghost use Rattle.node.specs.Checks.{Fitting};
-ghost use Rattle.code.specs.Scans.{root, located};
-ghost use Rattle.reading.specs.Frontiers.{slot-of, slots, Falling, Popped, Opened};
+ghost use Rattle.code.specs.Scans.{located};
+ghost use Rattle.reading.specs.Frontiers.{slot-of, waiting, Falling, Popped, Opened};
 use node::Located;
 use node::Node;
 use node::Part;
@@ -17,15 +17,17 @@ pub(crate) struct Opening {
     pub depth: u8,
 }
 
-// What is still to come: the openings, the nearest on top, and the number of each function around the nearest, by depth.
-#[derive(Drop)]
-pub(crate) struct Frontier {
-    pub openings: [Opening; 4097],
-    pub count: usize,
-    pub binders: [u16; 128],
-}
-
 impl Opening {
+    // The whole term.
+    pub(crate) fn root() -> Self
+        ensures { λ o. ⌜ o ≡ record { part = Root; depth = 0 } ⌝ }
+    {
+        Opening {
+            part: Part::Root,
+            depth: 0,
+        }
+    }
+
     // The left side of the application with that number, under that many functions.
     fn left(number: u16, depth: u8) -> Self
         ensures { λ o. ⌜ o ≡ record { part = Left number; depth = depth } ⌝ }
@@ -55,48 +57,53 @@ impl Opening {
     }
 }
 
+// What comes after the nearest opening: a stack of right sides, each by its application's number and its depth.
+// Beside it, by depth, the number of each function around the nearest opening.
+#[derive(Drop)]
+pub(crate) struct Frontier {
+    applications: [u16; 4096],
+    depths: [u8; 4096],
+    count: usize,
+    binders: [u16; 128],
+}
+
 impl Frontier {
-    // The whole term is to come.
     pub(crate) fn new() -> Self
-        ensures slots { λ f. ⌜ slots f ≡ root ∷ [] ⌝ }
-        ensures count { λ f. ⌜ f .count ≡ 1 ⌝ }
-        ensures falling { λ f. ⌜ Falling (f .openings) (f .count) 128 ⌝ }
+        ensures { λ f. ⌜ f .count ≡ 0 ⌝ }
     {
-        let whole = Opening {
-            part: Part::Root,
-            depth: 0,
-        };
         Frontier {
-            openings: [whole; 4097],
-            count: 1,
+            applications: [0; 4096],
+            depths: [0; 4096],
+            count: 0,
             binders: [0; 128],
         }
     }
 
-    // Takes the nearest opening.
-    pub(crate) fn pop(&mut self) -> Option<Opening>
-        requires few { ⌜ now self .count ≤ 4097 ⌝ }
-        requires falling { ⌜ Falling (now self .openings) (now self .count) 128 ⌝ }
-        ensures { λ r. ⌜ Cases r (slots (now (self .entry)) ≡ []) (Popped (now (self .entry)) (now (self .exit))) ⌝ }
+    fn push(&mut self, application: u16, depth: u8)
+        requires few { ⌜ now self .count < 4096 ⌝ }
+        requires falling { ⌜ Falling (now self .depths) (now self .count) depth ⌝ }
+        ensures slots { λ _. ⌜ waiting (now (self .exit)) ≡ slot-of (now (self .entry) .binders) (record { part = Right application; depth = depth }) ∷ waiting (now (self .entry)) ⌝ }
+        ensures binders { λ _. ⌜ now (self .exit) .binders ≡ now (self .entry) .binders ⌝ }
+        ensures count { λ _. ⌜ now (self .exit) .count ≡ now (self .entry) .count + 1 ⌝ }
+        ensures falling { λ _. ⌜ Falling (now (self .exit) .depths) (now (self .exit) .count) depth ⌝ }
+    {
+        let at = self.count;
+        self.applications[at] = application;
+        self.depths[at] = depth;
+        self.count = at + 1;
+    }
+
+    fn pop(&mut self) -> Option<Opening>
+        requires few { ⌜ now self .count ≤ 4096 ⌝ }
+        ensures count { λ _. ⌜ now (self .exit) .count ≤ now (self .entry) .count ⌝ }
+        ensures top { λ r. ⌜ Cases r (waiting (now (self .entry)) ≡ []) (Popped (now (self .entry)) (now (self .exit))) ⌝ }
     {
         if self.count == 0 {
             return None;
         }
         self.count -= 1;
-        Some(self.openings[self.count])
-    }
-
-    fn push(&mut self, opening: Opening)
-        requires few { ⌜ now self .count < 4097 ⌝ }
-        requires falling { ⌜ Falling (now self .openings) (now self .count) (opening .depth) ⌝ }
-        ensures slots { λ _. ⌜ slots (now (self .exit)) ≡ slot-of (now (self .entry) .binders) opening ∷ slots (now (self .entry)) ⌝ }
-        ensures binders { λ _. ⌜ now (self .exit) .binders ≡ now (self .entry) .binders ⌝ }
-        ensures count { λ _. ⌜ now (self .exit) .count ≡ now (self .entry) .count + 1 ⌝ }
-        ensures falling { λ _. ⌜ Falling (now (self .exit) .openings) (now (self .exit) .count) (opening .depth) ⌝ }
-    {
         let at = self.count;
-        self.openings[at] = opening;
-        self.count = at + 1;
+        Some(Opening::right(self.applications[at], self.depths[at]))
     }
 
     // The node that fills an opening, with where it stands.
@@ -119,25 +126,25 @@ impl Frontier {
         }
     }
 
-    // Opens the parts of the node that fills an opening.
-    pub(crate) fn open(&mut self, number: u16, opening: Opening, node: Node)
+    // The nearest opening once a node has filled the one before: its first part, or the nearest right side.
+    pub(crate) fn open(&mut self, number: u16, opening: Opening, node: Node) -> Option<Opening>
         requires few { ⌜ now self .count < 4096 ⌝ }
         requires shallow { ⌜ opening .depth ≤ 128 ⌝ }
         requires fitting { ⌜ Fitting (opening .depth) node ⌝ }
-        requires falling { ⌜ Falling (now self .openings) (now self .count) (opening .depth) ⌝ }
-        ensures { λ _. ⌜ Opened (now (self .entry)) (now (self .exit)) number opening node ⌝ }
+        requires falling { ⌜ Falling (now self .depths) (now self .count) (opening .depth) ⌝ }
+        ensures { λ r. ⌜ Opened (now (self .entry)) (now (self .exit)) number opening node r ⌝ }
     {
         let depth = opening.depth;
         match node {
             Node::Application => {
-                self.push(Opening::right(number, depth));
-                self.push(Opening::left(number, depth));
+                self.push(number, depth);
+                Some(Opening::left(number, depth))
             }
             Node::Function => {
                 self.binders[depth as usize] = number;
-                self.push(Opening::body(number, depth + 1));
+                Some(Opening::body(number, depth + 1))
             }
-            Node::Place(_) | Node::Ingredient(_) => {}
+            Node::Place(_) | Node::Ingredient(_) => self.pop(),
         }
     }
 }

@@ -6,6 +6,7 @@ ghost use Rattle.code.specs.Scans.{finish as finished, handed-over};
 ghost use Rattle.code.specs.Verdicts.{verdict, told, AcceptsExactly, RoundTrip};
 ghost use Rattle.code.specs.Layouts.{LaidOut};
 use crate::frontier::Frontier;
+use crate::frontier::Opening;
 use crate::receiver::Receiver;
 use node::Fault;
 use node::judge;
@@ -37,13 +38,14 @@ pub fn read<R: Receiver>(
     ensures laid_out { λ _. ⌜ LaidOut (now (code .entry)) ⌝ }
 {
     let mut frontier = Frontier::new();
+    let mut nearest = Some(Opening::root());
     let mut number = 0;
     let mut rest = code;
-    while let Some(opening) = frontier.pop() {
+    while let Some(opening) = nearest {
         let at = code.len() - rest.len();
         let node = judge(code.len(), at, number, opening.depth, spell(rest))?;
         receiver.put(beside, frontier.locate(number, opening, node));
-        frontier.open(number, opening, node);
+        nearest = frontier.open(number, opening, node);
         rest = &rest[width(node)..];
         number += 1;
     }

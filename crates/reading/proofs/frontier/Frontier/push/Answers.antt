@@ -6,4 +6,4 @@ use Rattle.reading.proofs.frontier.Frontier.push.Needs as need
 
 pub returns : need.returns
 returns c =
-    record { slots = rw add-one (pushed _ _ _ _ (omega arith)); binders = search needs; count = search needs; falling = rw add-one (falling-pushed _ _ _ _ (omega arith) (omega arith) (c .pre .falling)) }
+    record { slots = rw add-one (pushed _ _ _ _ _ _ (omega arith) (omega arith)); binders = search needs; count = search needs; falling = rw add-one (falling-pushed _ _ _ (omega arith) (c .pre .falling)) }
