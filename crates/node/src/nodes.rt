@@ -33,9 +33,9 @@ pub enum Part {
 pub struct Located {
     pub number: u16,
     pub node: Node,
-    // how many functions are around it
+    // the functions that it stands inside of, counted
     pub depth: u8,
-    // of a place, the number of the function that it belongs to
+    // the number of its function, if it is a place
     pub binder: Option<u16>,
     pub part: Part,
 }

@@ -34,7 +34,7 @@ pub impl From<Fault> for CountFault as FaultOfCount {
     }
 }
 
-// How many nodes of a code hold an ingredient, those inside functions too.
+// How often an ingredient occurs in a code, inside functions as well.
 pub fn count(code: &[u8], ingredient: u16) -> Result<u16, CountFault>
     ensures { λ r. ⌜ r ≡ counted (now (code .entry)) ingredient ⌝ }
 {

@@ -10,7 +10,7 @@ use node::Located;
 use node::Node;
 use node::Part;
 
-// A part of the term that is still to come, and how many functions are around it.
+// A part of the term that is still to come, and its depth: the functions that it stands inside of.
 #[derive(Clone, Copy)]
 pub(crate) struct Opening {
     pub part: Part,

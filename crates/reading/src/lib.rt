@@ -1,4 +1,4 @@
-// The one reading of a code, for any receiver of its nodes, and the count of an ingredient.
+// Reads codes: one reading for any receiver of nodes, and the count of an ingredient.
 mod counter;
 mod counts;
 mod frontier;

@@ -25,7 +25,7 @@ fn finish(end: usize, number: u16, rest: &[u8]) -> Result<u16, Fault>
     }
 }
 
-// Reads a code, hands over each good node as it comes, left to right, and answers the size of the term or the first fault.
+// Reads a code left to right, gives the receiver each node that passes, and answers the size of the term or the first fault.
 pub fn read<R: Receiver>(
     receiver: &mut R,
     beside: &mut R::Beside,

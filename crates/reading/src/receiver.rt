@@ -3,7 +3,7 @@ ghost use denote.Ref.{now};
 ghost use Rattle.node.specs.declared.nodes.Located.{Located};
 use node::Located;
 
-// What takes the nodes of a code as they are read. It refuses nothing: a full table stops storing, and its owner refuses later.
+// What takes the nodes of a code as they are read. It cannot refuse: a table that is full takes no more, and its owner says so afterwards.
 pub trait Receiver {
     // what the receiver's owner lends beside it; nothing for a counter
     type Beside;

@@ -4,7 +4,7 @@ use mathlib.Core.Logic.{_⊎_}
 use Prim.Native.Nat.{ℕ, zero, suc}
 use Rattle.term.specs.Terms.{Term, ingredient, function, application, Closed, fill}
 
--- one step: a function meets its argument, or the left side of an application steps
+-- one step: the body of a function takes the argument it is applied to, or the left side of an application steps
 pub data Step : Term → Term → Type 0 where
   beta : {t u : Term} → Step (application (function t) u) (fill 0 u t)
   left : {t t′ u : Term} → Step t t′ → Step (application t u) (application t′ u)
@@ -14,7 +14,7 @@ pub data Steps : ℕ → Term → Term → Type 0 where
   none : {t : Term} → Steps zero t t
   more : {n : ℕ} {t u v : Term} → Step t u → Steps n u v → Steps (suc n) t v
 
--- an ingredient followed by any number of arguments
+-- an ingredient, with no argument or more
 pub data Neutral : Term → Type 0 where
   bare : {i : ℕ} → Neutral (ingredient i)
   applied : {t u : Term} → Neutral t → Neutral (application t u)

@@ -4,8 +4,8 @@ use mathlib.Core.List.{List, [], _∷_, _++_}
 use Prim.Native.Nat.{ℕ, suc, _+_, _/_, _%_, _<_, _≤_, max}
 use lib.Dec.{eqb}
 
--- A place is a variable: its index counts the functions between it and its own, so 0 means the nearest.
--- An ingredient is a free name.
+-- A place is a bound variable by its de Bruijn index: a place of index k belongs to the function k further out than the nearest.
+-- An ingredient is a free variable. Functions and applications are the abstractions and applications of the calculus.
 pub data Term : Type 0 where
   place : ℕ → Term
   ingredient : ℕ → Term
@@ -53,28 +53,28 @@ Stocked (ingredient i) = i ≤ last-ingredient
 Stocked (function t) = Stocked t
 Stocked (application t u) = Stocked t × Stocked u
 
--- a closed term within the limits
+-- closed, and within the limits
 pub record Recipe (t : Term) : Type 0 where
   pub closed : Closed t
   pub small : size t ≤ most-nodes
   pub shallow : nesting t ≤ most-nested
   pub stocked : Stocked t
 
--- the bytes that spell a term: a tag, the node's own number if it has one, its parts
+-- the bytes that spell a term: a tag, then the node's own number if it has one, then its parts
 abbrev pub code : Term → List ℕ
 code (application t u) = 1 ∷ code t ++ code u
 code (function t) = 2 ∷ code t
 code (place k) = 3 ∷ k ∷ []
 code (ingredient i) = 4 ∷ i / 256 ∷ i % 256 ∷ []
 
--- how many nodes hold the ingredient i, those inside functions too
+-- how often the ingredient i occurs, inside functions as well
 abbrev pub occurrences : ℕ → Term → ℕ
 occurrences i (place k) = 0
 occurrences i (ingredient j) = cond (eqb j i) 1 0
 occurrences i (function t) = occurrences i t
 occurrences i (application t u) = occurrences i t + occurrences i u
 
--- t with u for the place of index i; u is closed wherever this is used, so no index in it shifts
+-- t with u put in the places of index i, counted from outside t; where u is closed, no index of it needs to shift
 abbrev pub fill : ℕ → Term → Term → Term
 fill i u (place k) = cond (eqb k i) u (place k)
 fill i u (ingredient j) = ingredient j

@@ -1,4 +1,4 @@
-// One real recipe from beginning to end, each step printed.
+// Takes a recipe of a real bakery through everything there is, and prints what happens.
 use node::Fault;
 use reading::NoReceiver;
 use reading::count;
