@@ -12,12 +12,12 @@ use Rattle.node.specs.declared.nodes.Node.{Node}
 use Rattle.node.specs.declared.nodes.Node.the-variants.{Application, Function, Place, Ingredient}
 use Rattle.node.specs.declared.faults.Fault.{Fault}
 use Rattle.term.specs.Terms.{Term, code}
-use Rattle.node.specs.Spell.{width}
+use Rattle.node.specs.Spell.{width-of}
 use Rattle.node.specs.Checks.{Fitting}
 use Rattle.code.specs.Scans.{Slot, parts-of, next, scan}
-use Rattle.code.specs.Verdicts.{joined-to, terms}
+use Rattle.code.specs.Verdicts.{Bytes, joined-to, terms}
 use Rattle.code.proofs.Turns.{err-not-ok, judged-ok, onward, goes-on, stops, Spells, spells}
-use Rattle.code.proofs.Lists.{Bytes, Fits, sizes}
+use Rattle.code.proofs.Lists.{Fits, sizes}
 
 -- bs spells terms for the slots, with k nodes up to the last of them, of which m and no more lie in the terms
 pub record Sound (m n : ℕ) (ss : List Slot) (bs : List ℕ) (k : ℕ) (ts : List Term) : Type 0 where
@@ -27,7 +27,7 @@ pub record Sound (m n : ℕ) (ss : List Slot) (bs : List ℕ) (k : ℕ) (ts : Li
   pub small : sizes ts ≤ m
 
 -- a node in front of its parts
-joins : (m n : ℕ) (s : Slot) (ss : List Slot) (bs : List ℕ) (k : ℕ) (node : Node) (ts : List Term) → Bytes bs → Spells node bs → Fitting (length (s .around)) node → Sound m (suc n) (parts-of n s node ss) (drop (width node) bs) k ts → Sound (suc m) n (s ∷ ss) bs k (joined-to node ts)
+joins : (m n : ℕ) (s : Slot) (ss : List Slot) (bs : List ℕ) (k : ℕ) (node : Node) (ts : List Term) → Bytes bs → Spells node bs → Fitting (length (s .around)) node → Sound m (suc n) (parts-of n s node ss) (drop (width-of node) bs) k ts → Sound (suc m) n (s ∷ ss) bs k (joined-to node ts)
 joins m n s ss bs k Application [] b sp f h = absurd (h .fits)
 joins m n s ss bs k Application (t ∷ []) b sp f h = absurd (h .fits .1)
 joins m n s ss bs k Application (t ∷ u ∷ ts) b sp f h =
@@ -68,7 +68,7 @@ bytes-drop : (w : ℕ) (bs : List ℕ) → Bytes bs → Bytes (drop w bs)
 bytes-drop w bs b k = rw getD-drop (b (w + k))
 
 -- one turn that is followed by a sound rest
-turn : (end m n : ℕ) (s : Slot) (ss : List Slot) (bs : List ℕ) (k : ℕ) → Bytes bs → scan end (suc m) n (s ∷ ss) bs .ended ≡ Ok k → ((node : Node) → onward end m n s ss bs node .ended ≡ Ok k → Sound m (suc n) (parts-of n s node ss) (drop (width node) bs) k (terms (onward end m n s ss bs node .handed))) → (r : Result Node Fault) → next end n s bs ≡ r → Sound (suc m) n (s ∷ ss) bs k (terms (scan end (suc m) n (s ∷ ss) bs .handed))
+turn : (end m n : ℕ) (s : Slot) (ss : List Slot) (bs : List ℕ) (k : ℕ) → Bytes bs → scan end (suc m) n (s ∷ ss) bs .ended ≡ Ok k → ((node : Node) → onward end m n s ss bs node .ended ≡ Ok k → Sound m (suc n) (parts-of n s node ss) (drop (width-of node) bs) k (terms (onward end m n s ss bs node .handed))) → (r : Result Node Fault) → next end n s bs ≡ r → Sound (suc m) n (s ∷ ss) bs k (terms (scan end (suc m) n (s ∷ ss) bs .handed))
 turn end m n s ss bs k b h rest (Ok node) e =
     let on = goes-on end m n s ss bs node e in
     let ok = judged-ok _ _ _ _ _ node e in
@@ -85,4 +85,4 @@ sound end m n [] [] k b h = let same : k ≡ n = cc in record { spelled = refl; 
 sound end m n [] (x ∷ bs) k b h = absurd (err-not-ok h)
 sound end zero n (s ∷ ss) bs k b h = absurd (no-room end n s ss bs k h _ refl)
 sound end (suc m) n (s ∷ ss) bs k b h =
-    turn end m n s ss bs k b h (λ node r. sound end m (suc n) (parts-of n s node ss) (drop (width node) bs) k (bytes-drop (width node) bs b) r) _ refl
+    turn end m n s ss bs k b h (λ node r. sound end m (suc n) (parts-of n s node ss) (drop (width-of node) bs) k (bytes-drop (width-of node) bs b) r) _ refl

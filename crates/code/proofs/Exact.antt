@@ -7,14 +7,14 @@ use lib.ListN.{length}
 use Rattle.std.specs.declared.result.Result.{Result}
 use Rattle.std.specs.declared.result.Result.the-variants.{Ok, Err}
 use Rattle.node.specs.declared.nodes.Node.the-variants.{Application, Function}
-use Rattle.node.specs.declared.nodes.Part.the-variants.{Left, Right, Body}
 use Rattle.node.specs.declared.nodes.Located.{Located}
 use Rattle.node.specs.declared.faults.Fault.{Fault}
 use Rattle.term.specs.Terms.{Term, place, ingredient, function, application, size, code, Recipe, most-nodes}
-use Rattle.code.specs.Scans.{Slot, root, scan, reading}
-use Rattle.code.specs.Verdicts.{accepted, refused, joined-to, terms, first, judgement, verdict, told, AcceptsExactly, RoundTrip}
+use Rattle.code.specs.Scans.{Slot, root, left-of, right-of, body-of, scan, reading}
+use Rattle.code.specs.Verdicts.{accepted, refused, joined-to, terms, first, judgement, verdict, told, Bytes, AcceptsExactly, RoundTrip}
 use Rattle.code.specs.Layouts.{layout, LaidOut}
-use Rattle.code.proofs.Lists.{Bytes, Fits}
+use Rattle.code.proofs.Lists.{Fits}
+use Rattle.code.proofs.Bytes.{code-bytes}
 use Rattle.code.proofs.Accepted.{Sound, sound}
 use Rattle.code.proofs.Recipes.{complete}
 
@@ -22,12 +22,10 @@ use Rattle.code.proofs.Recipes.{complete}
 laid-term : (n : ℕ) (s : Slot) (t : Term) (ls : List Located) → terms (layout n s t ++ ls) ≡ t ∷ terms ls
 laid-term n s (place k) ls = refl
 laid-term n s (ingredient i) ls = refl
-laid-term n s (function t) ls = ap (joined-to Function) (laid-term (suc n) (record { part = Body n; around = n ∷ s .around }) t ls)
+laid-term n s (function t) ls = ap (joined-to Function) (laid-term (suc n) (body-of n s) t ls)
 laid-term n s (application t u) ls =
-    let left : Slot = record { part = Left n; around = s .around } in
-    let right : Slot = record { part = Right n; around = s .around } in
-    ap (λ l. joined-to Application (terms l)) (append-assoc (layout (suc n) left t) (layout (suc n + size t) right u) ls)
-    ∙ ap (joined-to Application) (laid-term (suc n) left t _ ∙ ap (λ l. t ∷ l) (laid-term (suc n + size t) right u ls))
+    ap (λ l. joined-to Application (terms l)) (append-assoc (layout (suc n) (left-of n s) t) (layout (suc n + size t) (right-of n s) u) ls)
+    ∙ ap (joined-to Application) (laid-term (suc n) (left-of n s) t _ ∙ ap (λ l. t ∷ l) (laid-term (suc n + size t) (right-of n s) u ls))
 
 -- how the code of a recipe is read
 recipe-read : (t : Term) → Recipe t → reading (code t) ≡ record { handed = layout 0 root t; ended = Ok (size t) }
@@ -41,10 +39,13 @@ recipe-read t r =
     size-alone : 0 + (size t + 0) ≡ size t
     size-alone = omega arith
 
-pub round-trip : RoundTrip
+reads-back : (t : Term) → Recipe t → verdict (code t) ≡ accepted t
 unfolding verdict
-round-trip t r =
+reads-back t r =
     ap judgement (recipe-read t r) ∙ ap (λ l. accepted (first l)) (ap terms (sym (append-nil (layout 0 root t))) ∙ laid-term 0 root t [])
+
+pub round-trip : RoundTrip
+round-trip t r = (code-bytes t r, reads-back t r)
 
 -- what an accepted reading says of its one term
 record Alone (bs : List ℕ) (k : ℕ) (t : Term) : Type 0 where
@@ -91,7 +92,7 @@ same-term : {t u : Term} → accepted t ≡ accepted u → t ≡ u
 same-term h = cc
 
 pub accepts-exactly : (bs : List ℕ) → Bytes bs → AcceptsExactly bs
-accepts-exactly bs b t = (λ h. go h (reading bs .ended) refl, λ p. ap verdict (p .0) ∙ round-trip t (p .1))
+accepts-exactly bs b t = (λ h. go h (reading bs .ended) refl, λ p. ap verdict (p .0) ∙ reads-back t (p .1))
   where
     go : verdict bs ≡ accepted t → (r : Result ℕ Fault) → reading bs .ended ≡ r → (bs ≡ code t) × Recipe t
     go h (Ok k) e =

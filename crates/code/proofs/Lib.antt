@@ -2,4 +2,5 @@ pub mod Turns
 pub mod Lists
 pub mod Accepted
 pub mod Recipes
+pub mod Bytes
 pub mod Exact

@@ -1,15 +1,11 @@
 -- Lists of slots and of the terms that fill them. Assumes nothing.
 use mathlib.Core.List.{List, [], _∷_, _++_}
-use Prim.Native.Nat.{ℕ, _+_, _-_, _≤_, _<_}
-use lib.ListN.{length, getD}
+use Prim.Native.Nat.{ℕ, _+_, _-_, _≤_}
+use lib.ListN.{length}
 use Rattle.node.specs.declared.nodes.Located.{Located}
 use Rattle.term.specs.Terms.{Term, size, nesting, Covered, Stocked, most-nested}
 use Rattle.code.specs.Scans.{Slot}
 use Rattle.code.specs.Layouts.{layout}
-
--- each number is a byte
-abbrev pub Bytes : List ℕ → Type 0
-Bytes bs = (k : ℕ) → getD bs k 0 < 256
 
 -- t may stand under d functions
 pub record Fit (d : ℕ) (t : Term) : Type 0 where

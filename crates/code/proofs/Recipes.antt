@@ -12,10 +12,9 @@ use Rattle.node.specs.declared.nodes.Node.the-variants.{Application, Function, 
 use Rattle.node.specs.declared.nodes.Located.{Located}
 use Rattle.term.specs.Terms.{Term, place, ingredient, function, application, size, code, most-nodes}
 use Rattle.node.specs.declared.nodes.Spelling.the-variants.{Spelled}
-use Rattle.node.specs.declared.nodes.Part.the-variants.{Left, Right}
-use Rattle.node.specs.Spell.{spell}
+use Rattle.node.specs.Spell.{spelling-of}
 use Rattle.node.specs.Checks.{Fitting, admitted, judged}
-use Rattle.code.specs.Scans.{Slot, Scan, located, parts-of, scan}
+use Rattle.code.specs.Scans.{Slot, Scan, left-of, right-of, located, parts-of, scan}
 use Rattle.code.specs.Layouts.{layout}
 use Rattle.code.proofs.Turns.{onward, goes-on}
 use Rattle.code.proofs.Lists.{Fit, Fits, sizes, layouts}
@@ -40,7 +39,7 @@ same : {ls ls′ : List Located} {k k′ : ℕ} → ls ≡ ls′ → k ≡ k′ 
 same p q = λ i. record { handed = p i; ended = Ok (q i) }
 
 -- a node, and then the rest
-then : (end m n : ℕ) (s : Slot) (ss : List Slot) (bs : List ℕ) (node : Node) {ls : List Located} {k : ℕ} → spell bs ≡ Spelled node → n < most-nodes → Fitting (length (s .around)) node → onward end m n s ss bs node ≡ record { handed = ls; ended = Ok k } → scan end (suc m) n (s ∷ ss) bs ≡ record { handed = located n s node ∷ ls; ended = Ok k }
+then : (end m n : ℕ) (s : Slot) (ss : List Slot) (bs : List ℕ) (node : Node) {ls : List Located} {k : ℕ} → spelling-of bs ≡ Spelled node → n < most-nodes → Fitting (length (s .around)) node → onward end m n s ss bs node ≡ record { handed = ls; ended = Ok k } → scan end (suc m) n (s ∷ ss) bs ≡ record { handed = located n s node ∷ ls; ended = Ok k }
 then end m n s ss bs node e r f h =
     let d = length (s .around) in
     let admitted-here = ap (judged end (end - length bs) n d) e ∙ admits (end - length bs) n d node r f in
@@ -67,8 +66,8 @@ complete end (suc m) n (s ∷ ss) (application t u ∷ ts) r f h =
     let one : Fit (length (s .around)) t = record { covered = f .0 .covered .0; shallow = omega (arith, f .0 .shallow); stocked = f .0 .stocked .0 } in
     let two : Fit (length (s .around)) u = record { covered = f .0 .covered .1; shallow = omega (arith, f .0 .shallow); stocked = f .0 .stocked .1 } in
     let sides = parts-of n s Application ss in
-    let left = layout (suc n) (record { part = Left n; around = s .around }) t in
-    let right = layout (suc n + size t) (record { part = Right n; around = s .around }) u in
+    let left = layout (suc n) (left-of n s) t in
+    let right = layout (suc n + size t) (right-of n s) u in
     let last : suc n + size t + size u ≡ n + suc (size t + size u) = omega arith in
     then end m n s ss (joined code (application t u ∷ ts)) Application refl (omega arith) tt (ap (scan end m (suc n) sides) (append-assoc (code t) (code u) (joined code ts)) ∙ complete end m (suc n) sides (t ∷ u ∷ ts) (omega arith) (one, (two, f .1)) (omega arith))
     ∙ same (ap (λ l. located n s Application ∷ l) (sym (append-assoc left right _)) ∙ ap (λ x. layout n s (application t u) ++ layouts x ss ts) last) (omega arith)

@@ -16,7 +16,7 @@ use Rattle.node.specs.declared.nodes.Spelling.{Spelling}
 use Rattle.node.specs.declared.nodes.Spelling.the-variants.{Nothing, Unknown, Cut, Spelled}
 use Rattle.node.specs.declared.faults.Fault.{Fault}
 use Rattle.term.specs.Terms.{most-nodes}
-use Rattle.node.specs.Spell.{spell, spell-place, spell-ingredient, width}
+use Rattle.node.specs.Spell.{spelling-of, spell-place, spell-ingredient, width-of}
 use Rattle.node.specs.Checks.{Fitting, fitted, judged}
 use Rattle.code.specs.Scans.{Slot, Scan, located, parts-of, next, scan}
 
@@ -42,7 +42,7 @@ pub record Admitted (n d : ℕ) (s : Spelling) (node : Node) : Type 0 where
 pub judged-ok : (end at n d : ℕ) (s : Spelling) (node : Node) → judged end at n d s ≡ Ok node → Admitted n d s node
 judged-ok end at n d Nothing node h = absurd (err-not-ok h)
 judged-ok end at n d Unknown node h = absurd (err-not-ok h)
-judged-ok end at n d Cut node h = absurd (err-not-ok h)
+judged-ok end at n d Cut node h = absurd (err-not-ok (test-passed (ltb n most-nodes) _ _ _ h .1))
 judged-ok end at n d (Spelled m) node h =
     let p = test-passed (ltb n most-nodes) _ _ _ h in
     let q = fitted-ok at d m node (p .1) in
@@ -50,7 +50,7 @@ judged-ok end at n d (Spelled m) node h =
 
 -- the reading after node number n, and with that node
 abbrev pub onward : (end m n : ℕ) (s : Slot) (ss : List Slot) (bs : List ℕ) (node : Node) → Scan
-onward end m n s ss bs node = scan end m (suc n) (parts-of n s node ss) (drop (width node) bs)
+onward end m n s ss bs node = scan end m (suc n) (parts-of n s node ss) (drop (width-of node) bs)
 
 pub goes-on : (end m n : ℕ) (s : Slot) (ss : List Slot) (bs : List ℕ) (node : Node) → next end n s bs ≡ Ok node → scan end (suc m) n (s ∷ ss) bs ≡ record { handed = located n s node ∷ onward end m n s ss bs node .handed; ended = onward end m n s ss bs node .ended }
 goes-on end m n s ss bs node h = rw (h, scan) refl
@@ -85,7 +85,7 @@ spells-ingredient [] node h = no-spelling h
 spells-ingredient (high ∷ []) node h = no-spelling h
 spells-ingredient (high ∷ low ∷ bs) node h = subst (λ n. Spells n (4 ∷ high ∷ low ∷ bs)) (same-node h) (high, low, refl, refl)
 
-pub spells : (bs : List ℕ) (node : Node) → spell bs ≡ Spelled node → Spells node bs
+pub spells : (bs : List ℕ) (node : Node) → spelling-of bs ≡ Spelled node → Spells node bs
 spells [] node h = let z : _≡_ {A = ℕ} 0 1 = cc in absurd (omega arith)
 spells (tag ∷ bs) node h =
     let as-tag : (n : ℕ) → eqb tag n ≡ true → Spells node (n ∷ bs) → Spells node (tag ∷ bs) = λ n e p. subst (λ t. Spells node (t ∷ bs)) (sym (eqb-true tag n e)) p in
@@ -98,7 +98,7 @@ spells (tag ∷ bs) node h =
     (way (eqb tag 1) _ _ _ h)
 
 -- the bytes that spell a node are there
-pub spelled-width : (bs : List ℕ) (node : Node) → Spells node bs → width node ≤ length bs
+pub spelled-width : (bs : List ℕ) (node : Node) → Spells node bs → width-of node ≤ length bs
 spelled-width bs Application h = omega (arith, ap length h)
 spelled-width bs Function h = omega (arith, ap length h)
 spelled-width bs (Place k) h = omega (arith, ap length h)

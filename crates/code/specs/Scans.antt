@@ -14,7 +14,7 @@ use Rattle.node.specs.declared.nodes.Located.{Located}
 use Rattle.node.specs.declared.faults.Fault.{Fault}
 use Rattle.node.specs.declared.faults.Fault.the-variants.{TooManyNodes, Leftover}
 use Rattle.term.specs.Terms.{most-nodes}
-use Rattle.node.specs.Spell.{spell, width}
+use Rattle.node.specs.Spell.{spelling-of, width-of}
 use Rattle.node.specs.Checks.{judged}
 
 -- A slot is a part of the term that is still to come: which part it is, and the numbers of the functions around it, the nearest first.
@@ -24,6 +24,16 @@ pub record Slot : Type 0 where
 
 abbrev pub root : Slot
 root = record { part = Root; around = [] }
+
+-- the slots of the parts of node number n, which stands in a slot itself
+abbrev pub left-of : ℕ → Slot → Slot
+left-of n s = record { part = Left n; around = s .around }
+
+abbrev pub right-of : ℕ → Slot → Slot
+right-of n s = record { part = Right n; around = s .around }
+
+abbrev pub body-of : ℕ → Slot → Slot
+body-of n s = record { part = Body n; around = n ∷ s .around }
 
 -- of a place, the number of its function
 abbrev pub binder-of : Node → List ℕ → Option ℕ
@@ -37,10 +47,10 @@ abbrev pub located : ℕ → Slot → Node → Located
 located n s node =
     record { number = n; node = node; depth = length (s .around); binder = binder-of node (s .around); part = s .part }
 
--- the slots of the parts of node number n, which stands in a slot itself
+-- what is to come once node number n has filled a slot before others: its parts, and then those
 abbrev pub parts-of : ℕ → Slot → Node → List Slot → List Slot
-parts-of n s Application ss = record { part = Left n; around = s .around } ∷ record { part = Right n; around = s .around } ∷ ss
-parts-of n s Function ss = record { part = Body n; around = n ∷ s .around } ∷ ss
+parts-of n s Application ss = left-of n s ∷ right-of n s ∷ ss
+parts-of n s Function ss = body-of n s ∷ ss
 parts-of n s (Place k) ss = ss
 parts-of n s (Ingredient i) ss = ss
 
@@ -50,22 +60,23 @@ pub record Scan : Type 0 where
   pub ended : Result ℕ Fault
 
 -- every slot is filled: no byte may be left
-abbrev pub finish : ℕ → ℕ → List ℕ → Result ℕ Fault
-finish end n [] = Ok n
-finish end n (b ∷ bs) = Err (Leftover (end - length (b ∷ bs)))
+abbrev pub finished : ℕ → ℕ → List ℕ → Result ℕ Fault
+finished end n [] = Ok n
+finished end n (b ∷ bs) = Err (Leftover (end - length (b ∷ bs)))
 
 -- the checks at the front of what is left of a code of `end` bytes
 abbrev pub next : ℕ → ℕ → Slot → List ℕ → Result Node Fault
-next end n s bs = judged end (end - length bs) n (length (s .around)) (spell bs)
+next end n s bs = judged end (end - length bs) n (length (s .around)) (spelling-of bs)
 
--- the reading from node number n on, where at most m more fit, slots are to be filled and bs is left of a code of `end` bytes
+-- the reading from node number n on, where at most m more fit, slots are to be filled and bs is left of a code of `end` bytes;
+-- where none fits, the check of the room has refused the node, so the case of a good one does not come
 abbrev pub scan : ℕ → ℕ → ℕ → List Slot → List ℕ → Scan
-scan end m n [] bs = record { handed = []; ended = finish end n bs }
+scan end m n [] bs = record { handed = []; ended = finished end n bs }
 scan end zero n (s ∷ ss) bs =
     record { handed = []; ended = elim (next end n s bs) [ Ok node ↦ Err (TooManyNodes (end - length bs)) | Err f ↦ Err f ] }
 scan end (suc m) n (s ∷ ss) bs = elim (next end n s bs) [
   | Ok node ↦
-      let rest = scan end m (suc n) (parts-of n s node ss) (drop (width node) bs) in
+      let rest = scan end m (suc n) (parts-of n s node ss) (drop (width-of node) bs) in
       record { handed = located n s node ∷ rest .handed; ended = rest .ended }
   | Err f ↦ record { handed = []; ended = Err f }
 ]

@@ -2,7 +2,8 @@
 use mathlib.Core.Path.{_≡_}
 use mathlib.Core.Logic.{_↔_}
 use mathlib.Core.List.{List, [], _∷_}
-use Prim.Native.Nat.{ℕ}
+use Prim.Native.Nat.{ℕ, _<_}
+use lib.ListN.{getD}
 use Rattle.std.specs.declared.result.Result.{Result}
 use Rattle.std.specs.declared.result.Result.the-variants.{Ok, Err}
 use Rattle.node.specs.declared.nodes.Node.{Node}
@@ -52,6 +53,10 @@ told (refused f) = Err f
 abbrev pub AcceptsExactly : List ℕ → Type 0
 AcceptsExactly bs = (t : Term) → (verdict bs ≡ accepted t) ↔ ((bs ≡ code t) × Recipe t)
 
--- the code of a recipe reads back as that recipe
+-- each number is a byte
+abbrev pub Bytes : List ℕ → Type 0
+Bytes bs = (k : ℕ) → getD bs k 0 < 256
+
+-- the code of a recipe is a byte string, and reads back as that recipe
 abbrev pub RoundTrip : Type 0
-RoundTrip = (t : Term) → Recipe t → verdict (code t) ≡ accepted t
+RoundTrip = (t : Term) → Recipe t → Bytes (code t) × (verdict (code t) ≡ accepted t)

@@ -1,1 +1,1 @@
-// What a code means, as definitions of specs/: how bytes spell a node, which nodes a reading hands over, its verdict.
+// What a whole code means, as definitions of specs/: the nodes that a reading hands over, and its verdict.

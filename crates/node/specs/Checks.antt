@@ -26,13 +26,17 @@ fitted at d Function = cond (ltb d most-nested) (Ok Function) (Err (TooDeep at))
 fitted at d (Place k) = cond (ltb k d) (Ok (Place k)) (Err (Uncovered at))
 fitted at d (Ingredient i) = cond (leb i last-ingredient) (Ok (Ingredient i)) (Err (NoSuchIngredient at))
 
--- the same of a node that n nodes come before: first, a recipe has room for it
+-- what a further check says of a node that n nodes come before, where a recipe has room for it
+abbrev pub roomed : {A : Type 0} → ℕ → ℕ → Result A Fault → Result A Fault
+roomed at n further = cond (ltb n most-nodes) further (Err (TooManyNodes at))
+
+-- the checks at a node that n nodes come before, under d functions
 abbrev pub admitted : ℕ → ℕ → ℕ → Node → Result Node Fault
-admitted at n d node = cond (ltb n most-nodes) (fitted at d node) (Err (TooManyNodes at))
+admitted at n d node = roomed at n (fitted at d node)
 
 -- all checks at what the bytes from `at` on spell, in a code of `end` bytes
 abbrev pub judged : ℕ → ℕ → ℕ → ℕ → Spelling → Result Node Fault
 judged end at n d Nothing = Err (Missing end)
 judged end at n d Unknown = Err (UnknownTag at)
-judged end at n d Cut = Err (cond (ltb n most-nodes) (Missing end) (TooManyNodes at))
+judged end at n d Cut = roomed at n (Err (Missing end))
 judged end at n d (Spelled node) = admitted at n d node

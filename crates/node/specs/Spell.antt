@@ -20,15 +20,15 @@ spell-ingredient (high ∷ []) = Cut
 spell-ingredient (high ∷ low ∷ bs) = Spelled (Ingredient (256 * high + low))
 
 -- what the bytes at the front spell
-abbrev pub spell : List ℕ → Spelling
-spell [] = Nothing
-spell (tag ∷ bs) =
+abbrev pub spelling-of : List ℕ → Spelling
+spelling-of [] = Nothing
+spelling-of (tag ∷ bs) =
     cond (eqb tag 1) (Spelled Application)
     (cond (eqb tag 2) (Spelled Function) (cond (eqb tag 3) (spell-place bs) (cond (eqb tag 4) (spell-ingredient bs) Unknown)))
 
 -- how many bytes spell a node
-abbrev pub width : Node → ℕ
-width Application = 1
-width Function = 1
-width (Place k) = 2
-width (Ingredient i) = 3
+abbrev pub width-of : Node → ℕ
+width-of Application = 1
+width-of Function = 1
+width-of (Place k) = 2
+width-of (Ingredient i) = 3

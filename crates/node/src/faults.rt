@@ -42,8 +42,8 @@ impl Fault {
         }
     }
 
-    // The byte place.
-    pub fn place(&self) -> usize
+    // The byte of the code that it is at.
+    pub fn byte(&self) -> usize
         ensures { λ r. ⌜ r ≡ byte-of (now (self .entry)) ⌝ }
     {
         match *self {

@@ -7,10 +7,9 @@ use native.Mathlib.Omega.{arith}
 use lib.Dec.{eqb}
 use Rattle.std.specs.Iters.{folded}
 use Rattle.std.specs.declared.result.Result.the-variants.{Ok}
-use Rattle.node.specs.declared.nodes.Part.the-variants.{Left, Right, Body}
 use Rattle.node.specs.declared.nodes.Located.{Located}
 use Rattle.term.specs.Terms.{Term, place, ingredient, function, application, size, occurrences}
-use Rattle.code.specs.Scans.{Slot, root, handed-over}
+use Rattle.code.specs.Scans.{Slot, root, left-of, right-of, body-of, handed-over}
 use Rattle.code.specs.Verdicts.{Verdict, accepted, refused, verdict, told, AcceptsExactly}
 use Rattle.code.specs.Layouts.{layout, LaidOut}
 use Rattle.code.proofs.Turns.{err-not-ok}
@@ -37,14 +36,12 @@ counts-term : (i k n : ℕ) (s : Slot) (t : Term) → k + size t ≤ 65535 → f
 counts-term i k n s (place j) h = ap (counter i) (omega arith)
 counts-term i k n s (ingredient j) h =
     elim (eqb j i) as (λ b. counter i (cond b (min (k + 1) 65535) k) ≡ counter i (k + cond b 1 0)) [ true ↦ ap (counter i) (omega arith) | false ↦ ap (counter i) (omega arith) ]
-counts-term i k n s (function t) h = counts-term i k (suc n) (record { part = Body n; around = n ∷ s .around }) t (omega arith)
+counts-term i k n s (function t) h = counts-term i k (suc n) (body-of n s) t (omega arith)
 counts-term i k n s (application t u) h =
-    let left : Slot = record { part = Left n; around = s .around } in
-    let right : Slot = record { part = Right n; around = s .around } in
     let sum : k + occurrences i t + occurrences i u ≡ k + (occurrences i t + occurrences i u) = omega arith in
-    folded-append (counter i k) (layout (suc n) left t) (layout (suc n + size t) right u)
-    ∙ ap (λ c. folded after-node c (layout (suc n + size t) right u)) (counts-term i k (suc n) left t (omega arith))
-    ∙ counts-term i (k + occurrences i t) (suc n + size t) right u (omega (arith, occurrences-le i t))
+    folded-append (counter i k) (layout (suc n) (left-of n s) t) (layout (suc n + size t) (right-of n s) u)
+    ∙ ap (λ c. folded after-node c (layout (suc n + size t) (right-of n s) u)) (counts-term i k (suc n) (left-of n s) t (omega arith))
+    ∙ counts-term i (k + occurrences i t) (suc n + size t) (right-of n s) u (omega (arith, occurrences-le i t))
     ∙ ap (counter i) sum
 
 -- what a counter that begins at 0 finds in an accepted code

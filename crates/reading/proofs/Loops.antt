@@ -10,13 +10,12 @@ use Rattle.std.specs.declared.option.Option.the-variants.{Some}
 use Rattle.node.specs.declared.nodes.Part.the-variants.{Root}
 use Rattle.std.specs.declared.result.Result.the-variants.{Ok, Err}
 use Rattle.node.specs.declared.nodes.Node.{Node}
-use Rattle.node.specs.declared.nodes.Spelling.{Spelling}
 use Rattle.node.specs.declared.nodes.Located.{Located}
 use Rattle.node.specs.declared.faults.Fault.{Fault}
 use Rattle.term.specs.Terms.{most-nodes}
-use Rattle.node.specs.Spell.{spell, width}
+use Rattle.node.specs.Spell.{spelling-of, width-of}
 use Rattle.node.specs.Checks.{Fitting, judged}
-use Rattle.code.specs.Scans.{Slot, Scan, root, located, finish, next, scan, reading}
+use Rattle.code.specs.Scans.{Slot, Scan, root, located, finished, next, scan, reading}
 use Rattle.code.proofs.Turns.{judged-ok, onward, goes-on, stops, spells, spelled-width}
 use Rattle.reading.specs.declared.frontier.Frontier.{Frontier}
 use Rattle.reading.specs.declared.frontier.Opening.{Opening}
@@ -40,12 +39,12 @@ root-nested f o none is =
 pub record Passed (n d : ℕ) (bs : List ℕ) (node : Node) : Type 0 where
   pub room : n < most-nodes
   pub fitting : Fitting d node
-  pub wide : width node ≤ length bs
+  pub wide : width-of node ≤ length bs
 
-pub passed : (end at n d : ℕ) (sp : Spelling) (bs : List ℕ) (node : Node) → sp ≡ spell bs → Ok node ≡ judged end at n d sp → Passed n d bs node
-passed end at n d sp bs node spelt e =
-    let ok = judged-ok end at n d sp node (sym e) in
-    record { room = ok .room; fitting = ok .fitting; wide = spelled-width bs node (spells bs node (sym spelt ∙ ok .spelled)) }
+pub passed : (end at n d : ℕ) (bs : List ℕ) (node : Node) → Ok node ≡ judged end at n d (spelling-of bs) → Passed n d bs node
+passed end at n d bs node e =
+    let ok = judged-ok end at n d (spelling-of bs) node (sym e) in
+    record { room = ok .room; fitting = ok .fitting; wide = spelled-width bs node (spells bs node (ok .spelled)) }
 
 module _ {H : Type 0} (more : H → Located → H) where
   -- what is left to read ends the reading as its code does, and brings the receiver to the same state
@@ -61,29 +60,29 @@ module _ {H : Type 0} (more : H → Located → H) where
 
   -- no slot is left
   module _ {code : List ℕ} {start : H} {n : ℕ} {ss : List Slot} {bs : List ℕ} {now : H} (u : Underway code start n ss bs now) (none : ss ≡ []) where
-    rest-empty : rest-of (length code) n ss bs ≡ record { handed = []; ended = finish (length code) n bs }
+    rest-empty : rest-of (length code) n ss bs ≡ record { handed = []; ended = finished (length code) n bs }
     rest-empty = ap (λ s. rest-of (length code) n s bs) none
 
-    pub last-ended : finish (length code) n bs ≡ reading code .ended
+    pub last-ended : finished (length code) n bs ≡ reading code .ended
     last-ended = sym (ap (λ z. z .ended) rest-empty) ∙ u .ended
 
     pub last-held : now ≡ folded more start (reading code .handed)
     last-held = sym (ap (λ z. folded more now (z .handed)) rest-empty) ∙ u .held
 
-  module _ {code : List ℕ} {start : H} {n : ℕ} (f : Frontier) {bs : List ℕ} {now : H} (o : Opening) {sp : Spelling} (u : Underway code start n (slot-of (f .binders) o ∷ waiting f) bs now) (spelt : sp ≡ spell bs) where
+  module _ {code : List ℕ} {start : H} {n : ℕ} (f : Frontier) {bs : List ℕ} {now : H} (o : Opening) (u : Underway code start n (slot-of (f .binders) o ∷ waiting f) bs now) where
     -- the checks at the nearest opening
-    next-here : next (length code) n (slot-of (f .binders) o) bs ≡ judged (length code) (length code - length bs) n (o .depth) sp
-    next-here = λ i. judged (length code) (length code - length bs) n (length-around (f .binders) (o .depth) i) (sym spelt i)
+    next-here : next (length code) n (slot-of (f .binders) o) bs ≡ judged (length code) (length code - length bs) n (o .depth) (spelling-of bs)
+    next-here = ap (λ d. judged (length code) (length code - length bs) n d (spelling-of bs)) (length-around (f .binders) (o .depth))
 
     -- a node that passes is handed over
-    pub turned : {g : Frontier} {r : Option Opening} (node : Node) (l : Located) → Ok node ≡ judged (length code) (length code - length bs) n (o .depth) sp → l ≡ located n (slot-of (f .binders) o) node → Opened f g n o node r → Underway code start (n + 1) (upcoming r g) (drop (width node) bs) (more now l)
+    pub turned : {g : Frontier} {r : Option Opening} (node : Node) (l : Located) → Ok node ≡ judged (length code) (length code - length bs) n (o .depth) (spelling-of bs) → l ≡ located n (slot-of (f .binders) o) node → Opened f g n o node r → Underway code start (n + 1) (upcoming r g) (drop (width-of node) bs) (more now l)
     turned {g} {r} node l e is opened =
         let s = slot-of (f .binders) o in
-        let ok = passed _ _ n (o .depth) sp bs node spelt e in
+        let ok = passed _ _ n (o .depth) bs node e in
         let room : most-nodes - n ≡ suc (most-nodes - (n + 1)) = omega (arith, ok .room) in
         let up : suc n ≡ n + 1 = omega arith in
-        let after = rest-of (length code) (n + 1) (upcoming r g) (drop (width node) bs) in
-        let on : onward (length code) (most-nodes - (n + 1)) n s (waiting f) bs node ≡ after = λ i. scan (length code) (most-nodes - (n + 1)) (up i) (sym (opened .slots) i) (drop (width node) bs) in
+        let after = rest-of (length code) (n + 1) (upcoming r g) (drop (width-of node) bs) in
+        let on : onward (length code) (most-nodes - (n + 1)) n s (waiting f) bs node ≡ after = λ i. scan (length code) (most-nodes - (n + 1)) (up i) (sym (opened .slots) i) (drop (width-of node) bs) in
         let here : rest-of (length code) n (s ∷ waiting f) bs ≡ record { handed = located n s node ∷ after .handed; ended = after .ended } = ap (λ m. scan (length code) m n (s ∷ waiting f) bs) room ∙ goes-on (length code) (most-nodes - (n + 1)) n s (waiting f) bs node (next-here ∙ sym e) ∙ ap (λ (z : Scan). record { handed = located n s node ∷ z .handed; ended = z .ended }) on in
         record {
           small = omega (arith, ok .room);
@@ -93,7 +92,7 @@ module _ {H : Type 0} (more : H → Located → H) where
         }
 
     -- a fault ends the reading
-    pub stopped : (x : Fault) → Err x ≡ judged (length code) (length code - length bs) n (o .depth) sp → (Err x ≡ reading code .ended) × (now ≡ folded more start (reading code .handed))
+    pub stopped : (x : Fault) → Err x ≡ judged (length code) (length code - length bs) n (o .depth) (spelling-of bs) → (Err x ≡ reading code .ended) × (now ≡ folded more start (reading code .handed))
     stopped x e =
         let here = stops (length code) (most-nodes - n) n (slot-of (f .binders) o) (waiting f) bs x (next-here ∙ sym e) in
         (sym (ap (λ z. z .ended) here) ∙ u .ended, sym (ap (λ z. folded more now (z .handed)) here) ∙ u .held)

@@ -86,6 +86,7 @@ lowered f = record { applications = f .applications; depths = f .depths; count =
 pub popped : (f : Frontier) (o : Opening) → 0 < f .count → o ≡ record { part = Right (getD (f .applications) (f .count - 1) 0); depth = getD (f .depths) (f .count - 1) 0 } → Popped f (lowered f) o
 popped f o some is =
     record {
+      count = omega arith;
       slots = top (f .applications) (f .depths) (f .binders) (f .count) some ∙ ap (λ x. slot-of (f .binders) x ∷ waiting (lowered f)) (sym is);
       falling = λ d fall. subst (λ x. (x .depth ≤ d) × Falling (f .depths) (f .count - 1) (x .depth)) (sym is) (falling-top (f .depths) (f .count) d some fall);
     }
@@ -119,9 +120,10 @@ leaf : (n : ℕ) (s : Slot) (node : Node) (ss : List Slot) → ((k : ℕ) × (no
 leaf n s node ss (inl h) = rw (h .1) refl
 leaf n s node ss (inr h) = rw (h .1) refl
 
-pub none-opened : (f g : Frontier) (n : ℕ) (o : Opening) (node : Node) (r : Option Opening) → ((k : ℕ) × (node ≡ Place k)) ⊎ ((i : ℕ) × (node ≡ Ingredient i)) → o .depth ≤ most-nested → Falling (f .depths) (f .count) (o .depth) → g .count ≤ f .count → Cases r (waiting f ≡ []) (Popped f g) → Opened f g n o node r
-none-opened f g n o node None is low fall few h =
-    record { slots = sym h ∙ leaf n (slot-of (f .binders) o) node (waiting f) is; count = omega arith; nested = tt }
-none-opened f g n o node (Some x) is low fall few h =
+pub none-opened : (f g : Frontier) (n : ℕ) (o : Opening) (node : Node) (r : Option Opening) → ((k : ℕ) × (node ≡ Place k)) ⊎ ((i : ℕ) × (node ≡ Ingredient i)) → o .depth ≤ most-nested → Falling (f .depths) (f .count) (o .depth) → Cases r ((waiting f ≡ []) × (g ≡ f)) (Popped f g) → Opened f g n o node r
+none-opened f g n o node None is low fall h =
+    let same = ap (λ x. x .count) (h .1) in
+    record { slots = sym (h .0) ∙ leaf n (slot-of (f .binders) o) node (waiting f) is; count = omega arith; nested = tt }
+none-opened f g n o node (Some x) is low fall h =
     let next = h .falling (o .depth) fall in
     record { slots = sym (h .slots) ∙ leaf n (slot-of (f .binders) o) node (waiting f) is; count = omega arith; nested = (omega (arith, next .0), next .1) }

@@ -10,11 +10,11 @@ use Rattle.term.specs.Terms.{occurrences, last-ingredient}
 use Rattle.code.specs.Verdicts.{Verdict, verdict, accepted, refused}
 use Rattle.reading.specs.declared.counter.Counter.{Counter}
 use Rattle.reading.specs.declared.counts.CountFault.{CountFault}
-use Rattle.reading.specs.declared.counts.CountFault.the-variants.{NoSuchIngredient, Code}
+use Rattle.reading.specs.declared.counts.CountFault.the-variants.{UnknownIngredient, Code}
 
 -- a counter of an ingredient that a recipe can have
 abbrev pub counter-of : ℕ → Result Counter CountFault
-counter-of i = cond (leb i last-ingredient) (Ok (record { ingredient = i; found = 0 })) (Err NoSuchIngredient)
+counter-of i = cond (leb i last-ingredient) (Ok (record { ingredient = i; found = 0 })) (Err UnknownIngredient)
 
 -- how often the ingredient i occurs in a code with that verdict
 abbrev pub occurring : ℕ → Verdict → Result ℕ Fault
@@ -27,4 +27,4 @@ in-code (Err f) = Err (Code f)
 
 -- the ingredient is looked at first, then the code
 abbrev pub counted : List ℕ → ℕ → Result ℕ CountFault
-counted bs i = cond (leb i last-ingredient) (in-code (occurring i (verdict bs))) (Err NoSuchIngredient)
+counted bs i = elim (counter-of i) [ Ok c ↦ in-code (occurring i (verdict bs)) | Err e ↦ Err e ]

@@ -47,6 +47,7 @@ Nested (Some o) f = (o .depth ≤ most-nested) × Falling (f .depths) (f .count)
 -- a frontier f, less its nearest right side o, is g
 pub record Popped (f g : Frontier) (o : Opening) : Type 0 where
   pub slots : waiting f ≡ slot-of (g .binders) o ∷ waiting g
+  pub count : f .count ≡ g .count + 1
   pub falling : (d : ℕ) → Falling (f .depths) (f .count) d → (o .depth ≤ d) × Falling (g .depths) (g .count) (o .depth)
 
 -- node number n has filled the opening o before a frontier f; now r is the nearest opening, before the frontier g

@@ -24,7 +24,7 @@ impl Counter {
         ensures { λ r. ⌜ r ≡ counter-of ingredient ⌝ }
     {
         if ingredient > LAST_INGREDIENT {
-            return Err(CountFault::NoSuchIngredient);
+            return Err(CountFault::UnknownIngredient);
         }
         Ok(Counter {
             ingredient,

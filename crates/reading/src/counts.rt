@@ -1,7 +1,8 @@
 ghost use mathlib.Core.Path.{_≡_};
 ghost use Rattle.node.specs.declared.faults.Fault.{Fault};
 ghost use Rattle.reading.specs.declared.counts.CountFault.{CountFault};
-ghost use Rattle.reading.specs.CountFaults.{count-number, from-code};
+ghost use Rattle.reading.specs.declared.counts.CountFault.the-variants.{Code};
+ghost use Rattle.reading.specs.CountFaults.{count-number, count-name};
 ghost use Rattle.reading.specs.Counts.{counted};
 use crate::counter::Counter;
 use node::Fault;
@@ -11,7 +12,8 @@ use node::FaultPartialEq;
 // Why a count is refused.
 #[derive(Clone, Copy, PartialEq, Eq, Debug)]
 pub enum CountFault {
-    NoSuchIngredient,
+    // no recipe has an ingredient of that number
+    UnknownIngredient,
     Code(Fault),
 }
 
@@ -20,14 +22,23 @@ impl CountFault {
         ensures { λ r. ⌜ r ≡ count-number (now (self .entry)) ⌝ }
     {
         match self {
-            CountFault::NoSuchIngredient => 15,
+            CountFault::UnknownIngredient => 15,
             CountFault::Code(fault) => fault.number(),
+        }
+    }
+
+    pub fn name(&self) -> &'static str
+        ensures { λ r. ⌜ now r ≡ count-name (now (self .entry)) ⌝ }
+    {
+        match self {
+            CountFault::UnknownIngredient => "unknown ingredient",
+            CountFault::Code(fault) => fault.name(),
         }
     }
 }
 
 pub impl From<Fault> for CountFault as FaultOfCount {
-    ghost converts = { λ f c. c ≡ from-code f };
+    ghost converts = { λ f c. c ≡ Code f };
 
     fn from(value: Fault) -> Self {
         CountFault::Code(value)

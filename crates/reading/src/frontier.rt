@@ -3,6 +3,7 @@ ghost use mathlib.Core.List.{[], _∷_};
 ghost use Prim.Native.Nat.{_+_, _≤_, _<_};
 ghost use Rattle.std.specs.Options.{Cases};
 ghost use Rattle.node.specs.declared.nodes.Part.the-variants.{Root, Left, Right, Body};
+ghost use Rattle.term.specs.Terms.{most-nodes, most-nested};
 ghost use Rattle.node.specs.Checks.{Fitting};
 ghost use Rattle.code.specs.Scans.{located};
 ghost use Rattle.reading.specs.Frontiers.{slot-of, waiting, Falling, Popped, Opened};
@@ -80,7 +81,7 @@ impl Frontier {
     }
 
     fn push(&mut self, application: u16, depth: u8)
-        requires few { ⌜ now self .count < 4096 ⌝ }
+        requires few { ⌜ now self .count < most-nodes ⌝ }
         requires falling { ⌜ Falling (now self .depths) (now self .count) depth ⌝ }
         ensures slots { λ _. ⌜ waiting (now (self .exit)) ≡ slot-of (now (self .entry) .binders) (record { part = Right application; depth = depth }) ∷ waiting (now (self .entry)) ⌝ }
         ensures binders { λ _. ⌜ now (self .exit) .binders ≡ now (self .entry) .binders ⌝ }
@@ -94,9 +95,8 @@ impl Frontier {
     }
 
     fn pop(&mut self) -> Option<Opening>
-        requires few { ⌜ now self .count ≤ 4096 ⌝ }
-        ensures count { λ _. ⌜ now (self .exit) .count ≤ now (self .entry) .count ⌝ }
-        ensures top { λ r. ⌜ Cases r (waiting (now (self .entry)) ≡ []) (Popped (now (self .entry)) (now (self .exit))) ⌝ }
+        requires few { ⌜ now self .count ≤ most-nodes ⌝ }
+        ensures { λ r. ⌜ Cases r ((waiting (now (self .entry)) ≡ []) × (now (self .exit) ≡ now (self .entry))) (Popped (now (self .entry)) (now (self .exit))) ⌝ }
     {
         if self.count == 0 {
             return None;
@@ -108,7 +108,7 @@ impl Frontier {
 
     // The node that fills an opening, with where it stands.
     pub(crate) fn locate(&self, number: u16, opening: Opening, node: Node) -> Located
-        requires shallow { ⌜ opening .depth ≤ 128 ⌝ }
+        requires shallow { ⌜ opening .depth ≤ most-nested ⌝ }
         requires fitting { ⌜ Fitting (opening .depth) node ⌝ }
         ensures { λ r. ⌜ r ≡ located number (slot-of (now (self .entry) .binders) opening) node ⌝ }
     {
@@ -128,8 +128,8 @@ impl Frontier {
 
     // The nearest opening once a node has filled the one before: its first part, or the nearest right side.
     pub(crate) fn open(&mut self, number: u16, opening: Opening, node: Node) -> Option<Opening>
-        requires few { ⌜ now self .count < 4096 ⌝ }
-        requires shallow { ⌜ opening .depth ≤ 128 ⌝ }
+        requires few { ⌜ now self .count < most-nodes ⌝ }
+        requires shallow { ⌜ opening .depth ≤ most-nested ⌝ }
         requires fitting { ⌜ Fitting (opening .depth) node ⌝ }
         requires falling { ⌜ Falling (now self .depths) (now self .count) (opening .depth) ⌝ }
         ensures { λ r. ⌜ Opened (now (self .entry)) (now (self .exit)) number opening node r ⌝ }

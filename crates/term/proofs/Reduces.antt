@@ -5,9 +5,28 @@ use mathlib.Core.Logic.{_⊎_, inl, inr}
 use Prim.Native.Nat.{ℕ, suc, _≤_}
 use native.Mathlib.Omega.{arith}
 use lib.Dec.{eqb}
-use borrow.Author.Tests.{eqb-false}
+use borrow.Author.Tests.{eqb-false, eq-eqb, ne-eqb}
+use Rattle.std.proofs.shelf.Tests.{cond-true, cond-false}
 use Rattle.term.specs.Terms.{Term, place, ingredient, function, application, Covered, Closed, fill}
-use Rattle.term.specs.Reduction.{Step, beta, left, Steps, none, more, Neutral, bare, applied, Normal, abstraction, neutral, AtMostOneStep, NormalOrSteps, StepKeepsClosed}
+use Rattle.term.specs.Reduction.{Step, beta, left, Steps, none, more, Neutral, bare, applied, Normal, abstraction, neutral, FillsItsPlace, TakesInTurn, AtMostOneStep, NormalOrSteps, StepKeepsClosed}
+
+fill-own : (i : ℕ) (u : Term) → fill i u (place i) ≡ u
+fill-own i u = cond-true (eqb i i) u (place i) (eq-eqb i i refl)
+
+fill-others : (i : ℕ) (u t : Term) → Covered i t → fill i u t ≡ t
+fill-others i u (place k) c = let apart : k ≡ i → ⊥ = omega arith in cond-false (eqb k i) u (place k) (ne-eqb k i apart)
+fill-others i u (ingredient j) c = refl
+fill-others i u (function t) c = ap function (fill-others (suc i) u t c)
+fill-others i u (application t v) c =
+    let left = fill-others i u t (c .0) in
+    let right = fill-others i u v (c .1) in
+    cc
+
+pub fills-its-place : FillsItsPlace
+fills-its-place = record { own = fill-own; others = fill-others }
+
+pub takes-in-turn : TakesInTurn
+takes-in-turn a b = more (left beta) (more beta none)
 
 function-stays : {t u : Term} → Step (function t) u → ⊥
 function-stays s = elim s [ ]

@@ -58,8 +58,8 @@ fn print_code(rt: &LibcRuntime, code: &[u8]) -> io::Result<()> {
 fn print_refusal(rt: &LibcRuntime, fault: Fault) -> io::Result<()> {
     let number = fault.number();
     let name = fault.name();
-    let place = fault.place();
-    println!(rt, "  refused with {number}, {name}, at byte {place}")
+    let byte = fault.byte();
+    println!(rt, "  refused with {number}, {name}, at byte {byte}")
 }
 
 fn print_verdict(rt: &LibcRuntime, code: &[u8]) -> io::Result<()> {
@@ -75,7 +75,8 @@ fn print_counts(rt: &LibcRuntime, code: &[u8]) -> io::Result<()> {
             Ok(found) => println!(rt, "  {name}: {found}")?,
             Err(refusal) => {
                 let number = refusal.number();
-                println!(rt, "  {name} not counted: {number}")?;
+                let why = refusal.name();
+                println!(rt, "  {name} not counted: {number}, {why}")?;
             }
         }
     }

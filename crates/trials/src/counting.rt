@@ -25,11 +25,11 @@ fn every_node_counts() -> Result<(), Fail> {
 
 #[test]
 fn the_ingredient_is_looked_at_first() -> Result<(), Fail> {
-    check_eq(count(&[5], 4096), Err(CountFault::NoSuchIngredient))?;
+    check_eq(count(&[5], 4096), Err(CountFault::UnknownIngredient))?;
     check_eq(
         count(&[5], 4095),
         Err(CountFault::Code(Fault::UnknownTag { at: 0 })),
     )?;
-    check_eq(CountFault::NoSuchIngredient.number(), 15)?;
+    check_eq(CountFault::UnknownIngredient.number(), 15)?;
     check_eq(CountFault::Code(Fault::Leftover { at: 3 }).number(), 7)
 }

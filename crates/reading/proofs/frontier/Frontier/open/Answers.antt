@@ -26,4 +26,4 @@ returns-in-Function c =
 
 pub returns-in-Place : need.returns-in-Place
 returns-in-Place c =
-    none-opened _ _ _ (c .args .opening) _ _ (c .in-Place .is) (c .pre .shallow) (c .pre .falling) (c .pop .ensures .count) (c .pop .ensures .top)
+    none-opened _ _ _ (c .args .opening) _ _ (c .in-Place .is) (c .pre .shallow) (c .pre .falling) (c .pop .ensures)

@@ -3,4 +3,4 @@ use Rattle.reading.proofs.Stacks.{popped}
 use Rattle.reading.proofs.frontier.Frontier.pop.Needs as need
 
 pub returns : need.returns
-returns c = record { count = omega arith; top = popped (c .args .self .now) _ (omega arith) (c .right .ensures) }
+returns c = popped (c .args .self .now) _ (omega arith) (c .right .ensures)
