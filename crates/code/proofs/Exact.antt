@@ -39,7 +39,7 @@ recipe-read t r =
     size-alone : 0 + (size t + 0) ≡ size t
     size-alone = omega arith
 
-reads-back : (t : Term) → Recipe t → verdict (code t) ≡ accepted t
+pub reads-back : (t : Term) → Recipe t → verdict (code t) ≡ accepted t
 unfolding verdict
 reads-back t r =
     ap judgement (recipe-read t r) ∙ ap (λ l. accepted (first l)) (ap terms (sym (append-nil (layout 0 root t))) ∙ laid-term 0 root t [])
@@ -69,11 +69,11 @@ unfolding reading
 accepted-alone bs k b e = alone bs k _ (sound (length bs) most-nodes 0 (root ∷ []) bs k b e)
 
 -- the verdict, from the end of the reading
-verdict-ok : (bs : List ℕ) (k : ℕ) → reading bs .ended ≡ Ok k → verdict bs ≡ accepted (first (terms (reading bs .handed)))
+pub verdict-ok : (bs : List ℕ) (k : ℕ) → reading bs .ended ≡ Ok k → verdict bs ≡ accepted (first (terms (reading bs .handed)))
 unfolding verdict
 verdict-ok bs k e = rw e refl
 
-verdict-err : (bs : List ℕ) (f : Fault) → reading bs .ended ≡ Err f → verdict bs ≡ refused f
+pub verdict-err : (bs : List ℕ) (f : Fault) → reading bs .ended ≡ Err f → verdict bs ≡ refused f
 unfolding verdict
 verdict-err bs f e = rw e refl
 
@@ -85,7 +85,7 @@ answered bs b = go (reading bs .ended) refl
     go (Ok k) e = e ∙ ap Ok (accepted-alone bs k b e .counted) ∙ sym (ap told (verdict-ok bs k e))
     go (Err f) e = e ∙ sym (ap told (verdict-err bs f e))
 
-refused-not : {f : Fault} {t : Term} → refused f ≡ accepted t → ⊥
+pub refused-not : {f : Fault} {t : Term} → refused f ≡ accepted t → ⊥
 refused-not h = let z : _≡_ {A = ℕ} 0 1 = cc in omega arith
 
 same-term : {t u : Term} → accepted t ≡ accepted u → t ≡ u

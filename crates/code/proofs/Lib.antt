@@ -4,3 +4,6 @@ pub mod Accepted
 pub mod Recipes
 pub mod Bytes
 pub mod Exact
+pub mod Longer
+pub mod Damaged
+pub mod Lawful

@@ -10,8 +10,9 @@ use Rattle.std.specs.declared.result.Result.the-variants.{Ok}
 use Rattle.node.specs.declared.nodes.Located.{Located}
 use Rattle.term.specs.Terms.{Term, place, ingredient, function, application, size, occurrences}
 use Rattle.code.specs.Scans.{Slot, root, left-of, right-of, body-of, handed-over}
-use Rattle.code.specs.Verdicts.{Verdict, accepted, refused, verdict, told, AcceptsExactly}
-use Rattle.code.specs.Layouts.{layout, LaidOut}
+use Rattle.code.specs.Verdicts.{Verdict, accepted, refused, verdict, told}
+use Rattle.code.specs.Layouts.{layout}
+use Rattle.code.specs.Law.{ReadingLaw}
 use Rattle.code.proofs.Turns.{err-not-ok}
 use Rattle.reading.specs.declared.counter.Counter.{Counter}
 use Rattle.reading.specs.Counters.{after-node}
@@ -45,16 +46,16 @@ counts-term i k n s (application t u) h =
     ∙ ap (counter i) sum
 
 -- what a counter that begins at 0 finds in an accepted code
-pub found : (bs : List ℕ) (n : ℕ) (start end : Counter) → start .found ≡ 0 → Ok n ≡ told (verdict bs) → AcceptsExactly bs → LaidOut bs → end ≡ folded after-node start (handed-over bs) → Ok (end .found) ≡ occurring (start .ingredient) (verdict bs)
-found bs n start end zero ok exact laid is = go (verdict bs) refl
+pub found : (bs : List ℕ) (n : ℕ) (start end : Counter) → start .found ≡ 0 → Ok n ≡ told (verdict bs) → ReadingLaw bs → end ≡ folded after-node start (handed-over bs) → Ok (end .found) ≡ occurring (start .ingredient) (verdict bs)
+found bs n start end zero ok law is = go (verdict bs) refl
   where
     i : ℕ
     i = start .ingredient
 
     go : (v : Verdict) → verdict bs ≡ v → Ok (end .found) ≡ occurring (start .ingredient) (verdict bs)
     go (accepted t) e =
-        let small = exact t .0 e .1 .small in
+        let small = law .accepts-exactly t .0 e .1 .small in
         let none : 0 + occurrences i t ≡ occurrences i t = omega arith in
-        let all = is ∙ (λ x. folded after-node (counter i (zero x)) (laid t e x)) ∙ counts-term i 0 0 root t (omega arith) ∙ ap (counter i) none in
+        let all = is ∙ (λ x. folded after-node (counter i (zero x)) (law .laid-out t e x)) ∙ counts-term i 0 0 root t (omega arith) ∙ ap (counter i) none in
         ap (λ c. Ok (c .found)) all ∙ sym (ap (occurring i) e)
     go (refused f) e = absurd (err-not-ok (sym (ok ∙ ap told e)))

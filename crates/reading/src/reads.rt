@@ -5,8 +5,8 @@ ghost use lib.ListN.{length};
 ghost use Rattle.node.specs.Spell.{spelling-of};
 ghost use Rattle.node.specs.Checks.{judged};
 ghost use Rattle.code.specs.Scans.{finished, handed-over};
-ghost use Rattle.code.specs.Verdicts.{verdict, told, AcceptsExactly, RoundTrip};
-ghost use Rattle.code.specs.Layouts.{LaidOut};
+ghost use Rattle.code.specs.Verdicts.{verdict, told};
+ghost use Rattle.code.specs.Law.{ReadingLaw};
 use crate::frontier::Frontier;
 use crate::frontier::Opening;
 use crate::receiver::Receiver;
@@ -45,9 +45,7 @@ pub fn read<R: Receiver>(
 ) -> Result<u16, Fault>
     ensures answer { λ r. ⌜ r ≡ told (verdict (now (code .entry))) ⌝ }
     ensures held { λ _. ⌜ held (now (receiver .exit)) (now (beside .exit)) ≡ folded more (held (now (receiver .entry)) (now (beside .entry))) (handed-over (now (code .entry))) ⌝ }
-    ensures accepts_exactly { λ _. ⌜ AcceptsExactly (now (code .entry)) ⌝ }
-    ensures round_trip { λ _. ⌜ RoundTrip ⌝ }
-    ensures laid_out { λ _. ⌜ LaidOut (now (code .entry)) ⌝ }
+    ensures law { λ _. ⌜ ReadingLaw (now (code .entry)) ⌝ }
 {
     let mut frontier = Frontier::new();
     let mut nearest = Some(Opening::root());

@@ -14,9 +14,10 @@ use Rattle.std.specs.declared.result.Result.{Result}
 use Rattle.std.specs.declared.result.Result.the-variants.{Err}
 use Rattle.node.specs.declared.faults.Fault.{Fault}
 use Rattle.code.specs.Scans.{reading}
-use Rattle.code.specs.Verdicts.{verdict, told, AcceptsExactly, Bytes, RoundTrip}
-use Rattle.code.specs.Layouts.{LaidOut}
-use Rattle.code.proofs.Exact.{answered, accepts-exactly, round-trip, laid-out}
+use Rattle.code.specs.Verdicts.{verdict, told, Bytes}
+use Rattle.code.specs.Law.{ReadingLaw}
+use Rattle.code.proofs.Exact.{answered}
+use Rattle.code.proofs.Lawful.{reading-law}
 use Rattle.reading.specs.declared.frontier.Opening.{Opening}
 use Rattle.reading.specs.Frontiers.{upcoming, Nested}
 use Rattle.reading.proofs.Loops.{root-upcoming, root-nested, Passed, passed, Underway, begins, last-ended, last-held, turned, stopped}
@@ -25,10 +26,10 @@ use Rattle.reading.proofs.reads.read.Needs as need
 use Rattle.reading.proofs.reads.read.Needs.{In-Some, In-Continue-node}
 
 -- the promises, from the end of the reading
-promised : (code : List ℕ) → ((i : ℕ) → Fits w8 (getD code i 0)) → {r : Result ℕ Fault} → r ≡ reading code .ended → {P : Type 0} → P → record { answer : r ≡ told (verdict code); held : P; accepts-exactly : AcceptsExactly code; round-trip : RoundTrip; laid-out : LaidOut code }
+promised : (code : List ℕ) → ((i : ℕ) → Fits w8 (getD code i 0)) → {r : Result ℕ Fault} → r ≡ reading code .ended → {P : Type 0} → P → record { answer : r ≡ told (verdict code); held : P; law : ReadingLaw code }
 promised code fits e p =
     let b : Bytes code = λ i. fits i .fits in
-    record { answer = e ∙ answered code b; held = p; accepts-exactly = accepts-exactly code b; round-trip = round-trip; laid-out = laid-out code b }
+    record { answer = e ∙ answered code b; held = p; law = reading-law code b }
 
 -- the invariant, with r for the nearest opening
 abbrev At : (g : given.Over) → In-Some g → Option Opening → Type 0
