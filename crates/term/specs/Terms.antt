@@ -26,7 +26,7 @@ nesting (ingredient i) = 0
 nesting (function t) = suc (nesting t)
 nesting (application t u) = max (nesting t) (nesting u)
 
--- Each place of t is one of t's own functions or of d functions around t.
+-- each place of t belongs to a function of t, or to one of d functions around t
 abbrev pub Covered : ℕ → Term → Type 0
 Covered d (place k) = k < d
 Covered d (ingredient i) = Unit {0}
@@ -46,7 +46,7 @@ most-nested = 128
 abbrev pub last-ingredient : ℕ
 last-ingredient = 4095
 
--- each ingredient is one that a bakery can name
+-- each ingredient has a number that a recipe may use
 abbrev pub Stocked : Term → Type 0
 Stocked (place k) = Unit {0}
 Stocked (ingredient i) = i ≤ last-ingredient
