@@ -7,3 +7,5 @@ mod counting;
 mod handing;
 #[cfg(test)]
 mod limits;
+#[cfg(test)]
+mod storing;
