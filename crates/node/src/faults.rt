@@ -1,7 +1,7 @@
 ghost use mathlib.Core.Path.{_≡_};
 ghost use Rattle.node.specs.Faults.{number-of, name-of, byte-of};
 
-// Why a code is no recipe. Each case holds the byte place that a refusal reports.
+// Why a code is no recipe. Each case holds its byte place, the byte of the code that a refusal points at.
 #[derive(Clone, Copy, PartialEq, Eq, Debug)]
 pub enum Fault {
     Missing { at: usize },
