@@ -10,6 +10,7 @@ use Rattle.std.specs.declared.option.Option.the-variants.{Some}
 use Rattle.node.specs.declared.nodes.Part.the-variants.{Root}
 use Rattle.std.specs.declared.result.Result.the-variants.{Ok, Err}
 use Rattle.node.specs.declared.nodes.Node.{Node}
+use Rattle.node.specs.declared.nodes.Spelling.{Spelling}
 use Rattle.node.specs.declared.nodes.Located.{Located}
 use Rattle.node.specs.declared.faults.Fault.{Fault}
 use Rattle.term.specs.Terms.{most-nodes}
@@ -41,10 +42,10 @@ pub record Passed (n d : ℕ) (bs : List ℕ) (node : Node) : Type 0 where
   pub fitting : Fitting d node
   pub wide : width-of node ≤ length bs
 
-pub passed : (end at n d : ℕ) (bs : List ℕ) (node : Node) → Ok node ≡ judged end at n d (spelling-of bs) → Passed n d bs node
-passed end at n d bs node e =
-    let ok = judged-ok end at n d (spelling-of bs) node (sym e) in
-    record { room = ok .room; fitting = ok .fitting; wide = spelled-width bs node (spells bs node (ok .spelled)) }
+pub passed : (end at n d : ℕ) (sp : Spelling) (bs : List ℕ) (node : Node) → sp ≡ spelling-of bs → Ok node ≡ judged end at n d sp → Passed n d bs node
+passed end at n d sp bs node spelt e =
+    let ok = judged-ok end at n d sp node (sym e) in
+    record { room = ok .room; fitting = ok .fitting; wide = spelled-width bs node (spells bs node (sym spelt ∙ ok .spelled)) }
 
 module _ {H : Type 0} (more : H → Located → H) where
   -- what is left to read ends the reading as its code does, and brings the receiver to the same state
@@ -69,16 +70,16 @@ module _ {H : Type 0} (more : H → Located → H) where
     pub last-held : now ≡ folded more start (reading code .handed)
     last-held = sym (ap (λ z. folded more now (z .handed)) rest-empty) ∙ u .held
 
-  module _ {code : List ℕ} {start : H} {n : ℕ} (f : Frontier) {bs : List ℕ} {now : H} (o : Opening) (u : Underway code start n (slot-of (f .binders) o ∷ waiting f) bs now) where
+  module _ {code : List ℕ} {start : H} {n : ℕ} (f : Frontier) {bs : List ℕ} {now : H} (o : Opening) {sp : Spelling} (u : Underway code start n (slot-of (f .binders) o ∷ waiting f) bs now) (spelt : sp ≡ spelling-of bs) where
     -- the checks at the nearest opening
-    next-here : next (length code) n (slot-of (f .binders) o) bs ≡ judged (length code) (length code - length bs) n (o .depth) (spelling-of bs)
-    next-here = ap (λ d. judged (length code) (length code - length bs) n d (spelling-of bs)) (length-around (f .binders) (o .depth))
+    next-here : next (length code) n (slot-of (f .binders) o) bs ≡ judged (length code) (length code - length bs) n (o .depth) sp
+    next-here = λ i. judged (length code) (length code - length bs) n (length-around (f .binders) (o .depth) i) (sym spelt i)
 
     -- a node that passes is handed over
-    pub turned : {g : Frontier} {r : Option Opening} (node : Node) (l : Located) → Ok node ≡ judged (length code) (length code - length bs) n (o .depth) (spelling-of bs) → l ≡ located n (slot-of (f .binders) o) node → Opened f g n o node r → Underway code start (n + 1) (upcoming r g) (drop (width-of node) bs) (more now l)
+    pub turned : {g : Frontier} {r : Option Opening} (node : Node) (l : Located) → Ok node ≡ judged (length code) (length code - length bs) n (o .depth) sp → l ≡ located n (slot-of (f .binders) o) node → Opened f g n o node r → Underway code start (n + 1) (upcoming r g) (drop (width-of node) bs) (more now l)
     turned {g} {r} node l e is opened =
         let s = slot-of (f .binders) o in
-        let ok = passed _ _ n (o .depth) bs node e in
+        let ok = passed _ _ n (o .depth) sp bs node spelt e in
         let room : most-nodes - n ≡ suc (most-nodes - (n + 1)) = omega (arith, ok .room) in
         let up : suc n ≡ n + 1 = omega arith in
         let after = rest-of (length code) (n + 1) (upcoming r g) (drop (width-of node) bs) in
@@ -92,7 +93,7 @@ module _ {H : Type 0} (more : H → Located → H) where
         }
 
     -- a fault ends the reading
-    pub stopped : (x : Fault) → Err x ≡ judged (length code) (length code - length bs) n (o .depth) (spelling-of bs) → (Err x ≡ reading code .ended) × (now ≡ folded more start (reading code .handed))
+    pub stopped : (x : Fault) → Err x ≡ judged (length code) (length code - length bs) n (o .depth) sp → (Err x ≡ reading code .ended) × (now ≡ folded more start (reading code .handed))
     stopped x e =
         let here = stops (length code) (most-nodes - n) n (slot-of (f .binders) o) (waiting f) bs x (next-here ∙ sym e) in
         (sym (ap (λ z. z .ended) here) ∙ u .ended, sym (ap (λ z. folded more now (z .handed)) here) ∙ u .held)

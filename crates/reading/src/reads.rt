@@ -1,9 +1,7 @@
 ghost use mathlib.Core.Path.{_≡_};
 ghost use Rattle.std.specs.Iters.{folded};
-ghost use Prim.Native.Nat.{_-_, _≤_};
+ghost use Prim.Native.Nat.{_≤_};
 ghost use lib.ListN.{length};
-ghost use Rattle.node.specs.Spell.{spelling-of};
-ghost use Rattle.node.specs.Checks.{judged};
 ghost use Rattle.code.specs.Scans.{finished, handed-over};
 ghost use Rattle.code.specs.Verdicts.{verdict, told};
 ghost use Rattle.code.specs.Law.{ReadingLaw};
@@ -11,19 +9,9 @@ use crate::frontier::Frontier;
 use crate::frontier::Opening;
 use crate::receiver::Receiver;
 use node::Fault;
-use node::Node;
 use node::judge;
 use node::spell;
 use node::width;
-
-// The node at the front of what is left of a code of `end` bytes, if it passes the checks.
-fn next(end: usize, number: u16, depth: u8, rest: &[u8]) -> Result<Node, Fault>
-    requires { ⌜ length (now rest) ≤ end ⌝ }
-    ensures { λ r. ⌜ r ≡ judged end (end - length (now (rest .entry))) number depth (spelling-of (now (rest .entry))) ⌝ }
-{
-    let at = end - rest.len();
-    judge(end, at, number, depth, spell(rest))
-}
 
 // The answer where nothing more is to come.
 fn finish(end: usize, number: u16, rest: &[u8]) -> Result<u16, Fault>
@@ -52,7 +40,8 @@ pub fn read<R: Receiver>(
     let mut number = 0;
     let mut rest = code;
     while let Some(opening) = nearest {
-        let node = next(code.len(), number, opening.depth, rest)?;
+        let at = code.len() - rest.len();
+        let node = judge(code.len(), at, number, opening.depth, spell(rest))?;
         receiver.put(beside, frontier.locate(number, opening, node));
         nearest = frontier.open(number, opening, node);
         rest = &rest[width(node)..];

@@ -44,7 +44,7 @@ here g c =
     subst (λ r. Nested r (c .loop-nearest .frontier) × At g c r) (c .in-Some .is) (c .loop-nearest .inv .1, c .loop-nearest .inv .2)
 
 ok : (g : given.Over) (c : In-Continue-node g) → Passed (c .loop-nearest .number) (c .in-Some .opening .depth) (c .loop-nearest .rest .now) (c .in-Continue-node .node)
-ok g c = passed _ _ _ _ _ _ (c .in-Continue-node .ensures tt)
+ok g c = passed _ _ _ _ _ _ _ (c .spell .ensures) (c .in-Continue-node .ensures tt)
 
 pub loop-nearest-holds : need.loop-nearest-holds
 loop-nearest-holds g c =
@@ -60,7 +60,7 @@ pub returns-in-Break-node : need.returns-in-Break-node
 returns-in-Break-node g c =
     let p = err-from-errBy (c .from-residual .result) (c .from-residual .ensures .1) in
     let u = here g (need.at·returns-in-Break-node g c .In-Some) .1 in
-    let r = stopped (g .R·Receiver .more) (c .loop-nearest .frontier) (c .in-Some .opening) u _ (c .in-Break-node .ensures tt) in
+    let r = stopped (g .R·Receiver .more) (c .loop-nearest .frontier) (c .in-Some .opening) u (c .spell .ensures) _ (c .in-Break-node .ensures tt) in
     promised (c .args .code .now) (c .typed .code) (p .1 ∙ ap Err (p .2) ∙ r .0) (r .1)
 
 pub locate-requires : need.locate-requires
@@ -88,7 +88,7 @@ loop-nearest-less g c = omega (arith, ok g (need.at·loop-nearest-less g c .In-C
 pub loop-nearest-again : need.loop-nearest-again
 loop-nearest-again g c =
     let opened = c .open-nearest .ensures in
-    let u = turned (g .R·Receiver .more) (c .loop-nearest .frontier) (c .in-Some .opening) (here g (need.at·loop-nearest-again g c .In-Some) .1) _ _ (c .in-Continue-node .ensures tt) (c .locate .ensures) opened in
+    let u = turned (g .R·Receiver .more) (c .loop-nearest .frontier) (c .in-Some .opening) (here g (need.at·loop-nearest-again g c .In-Some) .1) (c .spell .ensures) _ _ (c .in-Continue-node .ensures tt) (c .locate .ensures) opened in
     let rest = take-rest (c .loop-nearest .rest .now) (c .width .result) ∙ ap (λ w. drop w (c .loop-nearest .rest .now)) (c .width .ensures) in
     (omega (arith, opened .count), opened .nested, subst₂ (Underway (g .R·Receiver .more) _ _ _ _) (sym rest) (sym (c .put .ensures)) u)
 
