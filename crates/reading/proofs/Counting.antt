@@ -1,13 +1,13 @@
 -- A counter that is handed a term's nodes has counted the term. Assumes nothing.
 use mathlib.Core.Path.{_≡_, refl, sym, ap, _∙_}
 use mathlib.Core.Bool.{true, false, cond}
-use mathlib.Core.List.{List, [], _∷_, _++_}
+use mathlib.Core.List.{List}
 use Prim.Native.Nat.{ℕ, suc, _+_, min, _≤_}
 use native.Mathlib.Omega.{arith}
 use lib.Dec.{eqb}
+use Rattle.std.proofs.iter.runs.Lists.{folded-append}
 use Rattle.std.specs.Iters.{folded}
 use Rattle.std.specs.declared.result.Result.the-variants.{Ok}
-use Rattle.node.specs.declared.nodes.Located.{Located}
 use Rattle.term.specs.Terms.{Term, place, ingredient, function, application, size, occurrences}
 use Rattle.code.specs.Scans.{Slot, root, left-of, right-of, body-of, handed-over}
 use Rattle.code.specs.Verdicts.{Verdict, accepted, refused, verdict, told}
@@ -20,10 +20,6 @@ use Rattle.reading.specs.Counts.{occurring}
 
 abbrev counter : ℕ → ℕ → Counter
 counter i k = record { ingredient = i; found = k }
-
-folded-append : (c : Counter) (xs ys : List Located) → folded after-node c (xs ++ ys) ≡ folded after-node (folded after-node c xs) ys
-folded-append c [] ys = refl
-folded-append c (x ∷ xs) ys = folded-append (after-node c x) xs ys
 
 -- a term has as many nodes at least as hold an ingredient
 occurrences-le : (i : ℕ) (t : Term) → occurrences i t ≤ size t
@@ -40,7 +36,7 @@ counts-term i k n s (ingredient j) h =
 counts-term i k n s (function t) h = counts-term i k (suc n) (body-of n s) t (omega arith)
 counts-term i k n s (application t u) h =
     let sum : k + occurrences i t + occurrences i u ≡ k + (occurrences i t + occurrences i u) = omega arith in
-    folded-append (counter i k) (layout (suc n) (left-of n s) t) (layout (suc n + size t) (right-of n s) u)
+    folded-append after-node (counter i k) (layout (suc n) (left-of n s) t) (layout (suc n + size t) (right-of n s) u)
     ∙ ap (λ c. folded after-node c (layout (suc n + size t) (right-of n s) u)) (counts-term i k (suc n) (left-of n s) t (omega arith))
     ∙ counts-term i (k + occurrences i t) (suc n + size t) (right-of n s) u (omega (arith, occurrences-le i t))
     ∙ ap (counter i) sum
