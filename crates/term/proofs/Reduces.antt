@@ -13,7 +13,7 @@ use Rattle.term.specs.Reduction.{Step, beta, left, Steps, none, more, Neutral,
 fill-own : (i : ℕ) (u : Term) → fill i u (place i) ≡ u
 fill-own i u = cond-true (eqb i i) u (place i) (eq-eqb i i refl)
 
-fill-others : (i : ℕ) (u t : Term) → Covered i t → fill i u t ≡ t
+pub fill-others : (i : ℕ) (u t : Term) → Covered i t → fill i u t ≡ t
 fill-others i u (place k) c = let apart : k ≡ i → ⊥ = omega arith in cond-false (eqb k i) u (place k) (ne-eqb k i apart)
 fill-others i u (ingredient j) c = refl
 fill-others i u (function t) c = ap function (fill-others (suc i) u t c)
@@ -69,7 +69,7 @@ pub normal-or-steps : NormalOrSteps
 normal-or-steps = record { either = either; never-both = normal-stays }
 
 -- what d functions cover, more do
-covered-more : (t : Term) (d e : ℕ) → d ≤ e → Covered d t → Covered e t
+pub covered-more : (t : Term) (d e : ℕ) → d ≤ e → Covered d t → Covered e t
 covered-more (place k) d e h c = omega arith
 covered-more (ingredient i) d e h c = tt
 covered-more (function t) d e h c = covered-more t (suc d) (suc e) (omega arith) c

@@ -1,0 +1,4 @@
+pub mod Plugging
+pub mod Sound
+pub mod Transitions
+pub mod Rules
