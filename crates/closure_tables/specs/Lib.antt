@@ -1,0 +1,4 @@
+pub mod Tables
+pub mod Presented
+pub mod Valid
+pub mod Moves
