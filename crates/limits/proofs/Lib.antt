@@ -1,0 +1,6 @@
+pub mod Triangular
+pub mod Chains
+pub mod Rules
+pub mod Runs
+pub mod Limited
+pub mod Roomy
