@@ -1,4 +1,5 @@
 pub mod Triangular
+pub mod Counting
 pub mod Chains
 pub mod Rules
 pub mod Runs

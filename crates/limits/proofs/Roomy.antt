@@ -16,56 +16,54 @@ use Rattle.term.specs.Reduction.{Steps, Normal}
 use Rattle.machine.specs.declared.outcomes.Transition.{Transition}
 use Rattle.machine.specs.declared.outcomes.Transition.the-variants.{Beta, Substitution, Search}
 use Rattle.machine.specs.declared.outcomes.Outcome.the-variants.{Made, Done}
-use Rattle.machine.specs.Meanings.{Places, Due, transition, done, Standing, Meaning}
+use Rattle.machine.specs.Meanings.{Due, transition, done, Standing, Meaning, SoundStanding}
 use Rattle.machine.specs.Rules.{outcome-of, outcome-due}
 use Rattle.limits.specs.Counts.{count-of, most-work}
 use Rattle.limits.specs.Runs.{Run}
-use Rattle.limits.specs.Limits.{Enough, GoesOn, EnoughPlaces}
+use Rattle.limits.specs.Limits.{Limits, Enough, NotFull, Bounded, EnoughPlaces}
 use Rattle.limits.proofs.Triangular.{work-more}
 use Rattle.limits.proofs.Chains.{at-most, fewer}
 use Rattle.limits.proofs.Runs.{run-sound, Kept, kept}
-use Rattle.limits.proofs.Limited.{outcome-standing, lines, limits}
+use Rattle.limits.proofs.Limited.{outcome-standing, limits}
 
 -- no table is full where each has places for the transition due
-unfilled :
+not-full :
     (m : Meaning) (s : Standing) → m .standing ≡ Some s → (s .due ≡ transition Beta → 0 < m .free .entries) →
-    (s .due ≡ transition Substitution → s .price ≤ m .free .nodes) → (s .due ≡ transition Search → 0 < m .free .stack) → GoesOn m
-unfilled m s e beta substitution search-room = by-due (s .due) refl
+    (s .due ≡ transition Substitution → s .price ≤ m .free .nodes) → (s .due ≡ transition Search → 0 < m .free .stack) → NotFull m
+not-full m s e beta substitution search-room = by-due (s .due) refl
   where
     comes-to : (d : Due) → s .due ≡ d → outcome-due m ≡ Ok (outcome-of (m .free) (s .price) d)
     comes-to d q = outcome-standing m s e ∙ ap (λ x. Ok (outcome-of (m .free) (s .price) x)) q
 
-    by-due : (d : Due) → s .due ≡ d → GoesOn m
+    by-due : (d : Due) → s .due ≡ d → NotFull m
     by-due done q = inl (comes-to done q)
     by-due (transition Beta) q = inr (Beta, comes-to (transition Beta) q ∙ ap Ok (cond-true _ _ _ (lt-ltb _ _ (beta q))))
     by-due (transition Substitution) q = inr (Substitution, comes-to (transition Substitution) q ∙ ap Ok (cond-true _ _ _ (le-leb _ _ (substitution q))))
     by-due (transition Search) q = inr (Search, comes-to (transition Search) q ∙ ap Ok (cond-true _ _ _ (lt-ltb _ _ (search-room q))))
 
-module _ (t u : Term) (n : ℕ) (ks : List Transition) (m : Meaning) (c : Steps n t u) (normal : Normal u) (r : Run t ks m) where
-  within : kept t ks m r .now .betas ≤ n
-  within = let h = kept t ks m r in at-most (h .now .betas) n t (h .now .term) u (h .reached) c normal
+module _ (t u : Term) (n : ℕ) (ks : List Transition) (m : Meaning) (c : Steps n t u) (normal : Normal u) (h : Kept t ks m) where
+  within : h .now .betas ≤ n
+  within = at-most (h .now .betas) n t (h .now .term) u (h .reached) c normal
 
-  work-within : most-work (kept t ks m r .now .loaded) (kept t ks m r .now .betas) ≤ most-work (size t) n
-  work-within = let h = kept t ks m r in rw (h .loaded) (work-more (size t) (h .now .betas) n within)
+  work-within : most-work (h .now .loaded) (h .now .betas) ≤ most-work (size t) n
+  work-within = rw (h .loaded) (work-more (size t) (h .now .betas) n within)
 
-  betas : count-of Beta ks ≤ n
-  betas = omega (arith, kept t ks m r .lines, within)
-
-  transitions : length ks + 1 ≤ most-work (size t) n
-  transitions = let h = kept t ks m r in omega (arith, limits t ks m (h .now) r (h .stands) .transitions, work-within)
-
-  goes-on : Enough t n (m .capacity) → GoesOn m
-  goes-on enough =
-      let h = kept t ks m r in
+  never-full : SoundStanding (h .now) → Limits t ks m (h .now) → Enough t n (m .capacity) → NotFull m
+  never-full o i enough =
       let s = h .now in
-      let o = run-sound t ks m r .standing s (h .stands) in
-      let i = limits t ks m s r (h .stands) in
       let l = h .lines in
       let work = work-within in
-      unfilled m s (h .stands)
+      not-full m s (h .stands)
       (λ d. omega (arith, fewer (s .betas) n t (s .term) (o .beta-steps d .0) u (h .reached) (o .beta-steps d .1) c normal))
       (λ d. omega (arith, i .substitution-due d .nodes))
       (λ d. omega (arith, i .search-due d .stack))
 
 pub enough-places : EnoughPlaces
-enough-places = record { betas = betas; transitions = transitions; goes-on = goes-on }
+enough-places t u n ks m c normal r =
+    let h = kept t ks m r in
+    let i = limits t ks m (h .now) r (h .stands) in
+    record {
+      betas = omega (arith, h .lines .betas, within t u n ks m c normal h);
+      transitions = omega (arith, i .transitions, work-within t u n ks m c normal h);
+      never-full = never-full t u n ks m c normal h (run-sound t ks m r .standing (h .now) (h .stands)) i;
+    }

@@ -28,7 +28,7 @@ start-lines t m n e =
     let loaded = ap (λ (x : ℕ). x * 1) (e .loaded) in
     let one = mul-one (size t) in
     record {
-      all = refl;
+      total = refl;
       betas = omega arith;
       entries = omega arith;
       stack = omega arith;
@@ -44,7 +44,7 @@ rule-lines Beta ks m n s s′ ce le o l r =
     let capacity = same _ _ ce in
     let loaded = ap (λ (x : ℕ). x * suc (count-of Substitution ks)) le in
     record {
-      all = omega arith;
+      total = omega arith;
       betas = omega arith;
       entries = omega arith;
       stack = omega arith;
@@ -57,7 +57,7 @@ rule-lines Substitution ks m n s s′ ce le o l r =
     let loaded = ap (λ (x : ℕ). x * suc (suc (count-of Substitution ks))) le in
     let more = mul-suc (s .loaded) (suc (count-of Substitution ks)) in
     record {
-      all = omega arith;
+      total = omega arith;
       betas = omega arith;
       entries = omega arith;
       stack = omega arith;
@@ -69,7 +69,7 @@ rule-lines Search ks m n s s′ ce le o l r =
     let capacity = same _ _ ce in
     let loaded = ap (λ (x : ℕ). x * suc (count-of Substitution ks)) le in
     record {
-      all = omega arith;
+      total = omega arith;
       betas = omega arith;
       entries = omega arith;
       stack = omega arith;

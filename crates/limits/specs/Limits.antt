@@ -18,7 +18,7 @@ use Rattle.limits.specs.Runs.{Run}
 
 -- what each transition keeps true
 pub record Lines (ks : List Transition) (m : Meaning) (s : Standing) : Type 0 where
-  pub all : length ks ≡ count-of Beta ks + count-of Substitution ks + count-of Search ks
+  pub total : length ks ≡ count-of Beta ks + count-of Substitution ks + count-of Search ks
   pub betas : count-of Beta ks ≡ s .betas
   pub entries : m .free .entries + s .betas ≡ m .capacity .entries
   pub stack : m .free .stack + count-of Search ks ≡ m .capacity .stack + count-of Beta ks
@@ -65,11 +65,14 @@ pub record Enough (t : Term) (n : ℕ) (p : Places) : Type 0 where
   pub nodes : most-work (size t) n ≤ p .nodes
 
 -- no table is full
-abbrev pub GoesOn : Meaning → Type 0
-GoesOn m = (outcome-due m ≡ Ok Done) ⊎ ((k : Transition) × (outcome-due m ≡ Ok (Made k)))
+abbrev pub NotFull : Meaning → Type 0
+NotFull m = (outcome-due m ≡ Ok Done) ⊎ ((k : Transition) × (outcome-due m ≡ Ok (Made k)))
 
--- of every run from a term that is n steps from a normal form
-pub record EnoughPlaces : Type 0 where
-  pub betas : (t u : Term) (n : ℕ) (ks : List Transition) (m : Meaning) → Steps n t u → Normal u → Run t ks m → count-of Beta ks ≤ n
-  pub transitions : (t u : Term) (n : ℕ) (ks : List Transition) (m : Meaning) → Steps n t u → Normal u → Run t ks m → length ks + 1 ≤ most-work (size t) n
-  pub goes-on : (t u : Term) (n : ℕ) (ks : List Transition) (m : Meaning) → Steps n t u → Normal u → Run t ks m → Enough t n (m .capacity) → GoesOn m
+-- what holds after the transitions ks since the start of t, which is n steps from a normal form
+pub record Bounded (t : Term) (n : ℕ) (ks : List Transition) (m : Meaning) : Type 0 where
+  pub betas : count-of Beta ks ≤ n
+  pub transitions : length ks + 1 ≤ most-work (size t) n
+  pub never-full : Enough t n (m .capacity) → NotFull m
+
+abbrev pub EnoughPlaces : Type 0
+EnoughPlaces = (t u : Term) (n : ℕ) (ks : List Transition) (m : Meaning) → Steps n t u → Normal u → Run t ks m → Bounded t n ks m
