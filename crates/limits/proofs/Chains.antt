@@ -7,17 +7,17 @@ use Rattle.term.specs.Reduction as reduction
 use Rattle.term.specs.Reduction.{Step, Steps, Normal}
 use Rattle.term.proofs.Reduces.{at-most-one-step, normal-or-steps}
 
-data Chain (A : Type 0) (R : A → A → Type 0) : ℕ → A → A → Type 0 where
+pub data Chain (A : Type 0) (R : A → A → Type 0) : ℕ → A → A → Type 0 where
   none : {x : A} → Chain A R zero x x
   more : {n : ℕ} {x y z : A} → R x y → Chain A R n y z → Chain A R (suc n) x z
 
-onward : (A : Type 0) (R : A → A → Type 0) (b : ℕ) (x y z : A) → Chain A R b x y → R y z → Chain A R (suc b) x z
+pub onward : (A : Type 0) (R : A → A → Type 0) (b : ℕ) (x y z : A) → Chain A R b x y → R y z → Chain A R (suc b) x z
 onward A R _ _ _ z none r = more r none
 onward A R _ _ y z (more {n = b} {y = w} p c) r = more p (onward A R b w y z c r)
 
 module _ (A : Type 0) (R : A → A → Type 0) (one : (x y z : A) → R x y → R x z → y ≡ z) where
   -- no chain is longer than one from the same start to where there is no step
-  no-longer : (b n : ℕ) (x y z : A) → Chain A R b x y → Chain A R n x z → ((w : A) → R z w → ⊥) → b ≤ n
+  pub no-longer : (b n : ℕ) (x y z : A) → Chain A R b x y → Chain A R n x z → ((w : A) → R z w → ⊥) → b ≤ n
   no-longer _ n _ _ z none c stops = omega arith
   no-longer _ _ _ y _ (more {y = w} p c) none stops = absurd (stops w p)
   no-longer _ _ x y z (more {n = b} {y = v} p c) (more {n = n} {y = w} q d) stops =
@@ -25,7 +25,7 @@ module _ (A : Type 0) (R : A → A → Type 0) (one : (x y z : A) → R x y → 
       omega arith
 
   -- and one with a step at its end is shorter
-  shorter : (b n : ℕ) (x y w z : A) → Chain A R b x y → R y w → Chain A R n x z → ((w : A) → R z w → ⊥) → b < n
+  pub shorter : (b n : ℕ) (x y w z : A) → Chain A R b x y → R y w → Chain A R n x z → ((w : A) → R z w → ⊥) → b < n
   shorter b n x y w z c r d stops = no-longer (suc b) n x w z (onward A R b x y w c r) d stops
 
 chained : (n : ℕ) (t u : Term) → Steps n t u → Chain Term Step n t u

@@ -1,8 +1,8 @@
 -- The limits follow from the lines. Assumes nothing.
-use mathlib.Core.Path.{_≡_, refl, sym, _∙_, ap, subst}
+use mathlib.Core.Path.{_≡_, refl, subst}
 use mathlib.Core.Bool.{Bool, true, false, cond}
 use mathlib.Core.List.{List}
-use Prim.Native.Nat.{ℕ, suc, _+_, _*_, _^_, _≤_, _<_}
+use Prim.Native.Nat.{ℕ, suc, _*_, _^_, _≤_, _<_}
 use native.Mathlib.Nat.{mul-suc, mul-le-mul-left}
 use native.Mathlib.Omega.{arith}
 use lib.Dec.{ltb, leb}
@@ -15,11 +15,11 @@ use Rattle.machine.specs.declared.outcomes.Transition.the-variants.{Beta, Subst
 use Rattle.machine.specs.declared.outcomes.Table.{Table}
 use Rattle.machine.specs.declared.outcomes.Table.the-variants.{Stack, Entries, Nodes}
 use Rattle.machine.specs.declared.outcomes.Outcome.the-variants.{Made, Done, Full}
-use Rattle.machine.specs.Meanings.{Places, Due, transition, done, Standing, Meaning, SoundStanding, Sound}
+use Rattle.machine.specs.Meanings.{Places, Due, transition, done, Standing, Meaning, SoundStanding}
 use Rattle.machine.specs.Rules.{outcome-of, outcome-due}
-use Rattle.limits.specs.Counts.{triangle, count-of, most-work}
+use Rattle.limits.specs.Counts.{count-of, most-work}
 use Rattle.limits.specs.Runs.{Run}
-use Rattle.limits.specs.Limits.{Lines, SearchFits, SubstitutionFits, Limits, LimitsOfRuns}
+use Rattle.limits.specs.Limits.{Lines, SubstitutionFits, Limits, LimitsOfRuns}
 use Rattle.limits.proofs.Triangular.{work-countable}
 use Rattle.limits.proofs.Runs.{run-sound, Kept, kept}
 

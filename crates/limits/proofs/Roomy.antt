@@ -1,12 +1,9 @@
 -- A term that is some steps from a normal form, and the places that are enough for it. Assumes nothing.
 use mathlib.Core.Path.{_≡_, refl, _∙_, ap}
-use mathlib.Core.Logic.{_⊎_, inl, inr}
-use mathlib.Core.Bool.{cond}
+use mathlib.Core.Logic.{inl, inr}
 use mathlib.Core.List.{List}
-use Prim.Native.Nat.{ℕ, _+_, _≤_, _<_}
+use Prim.Native.Nat.{ℕ, _≤_, _<_}
 use native.Mathlib.Omega.{arith}
-use lib.Dec.{ltb, leb}
-use lib.ListN.{length}
 use borrow.Author.Tests.{lt-ltb, le-leb}
 use Rattle.std.proofs.shelf.Tests.{cond-true}
 use Rattle.std.specs.declared.option.Option.the-variants.{Some}
@@ -15,12 +12,10 @@ use Rattle.term.specs.Terms.{Term, size}
 use Rattle.term.specs.Reduction.{Steps, Normal}
 use Rattle.machine.specs.declared.outcomes.Transition.{Transition}
 use Rattle.machine.specs.declared.outcomes.Transition.the-variants.{Beta, Substitution, Search}
-use Rattle.machine.specs.declared.outcomes.Outcome.the-variants.{Made, Done}
 use Rattle.machine.specs.Meanings.{Due, transition, done, Standing, Meaning, SoundStanding}
 use Rattle.machine.specs.Rules.{outcome-of, outcome-due}
-use Rattle.limits.specs.Counts.{count-of, most-work}
-use Rattle.limits.specs.Runs.{Run}
-use Rattle.limits.specs.Limits.{Limits, Enough, NotFull, Bounded, EnoughPlaces}
+use Rattle.limits.specs.Counts.{most-work}
+use Rattle.limits.specs.Limits.{Limits, Enough, NotFull, EnoughPlaces}
 use Rattle.limits.proofs.Triangular.{work-more}
 use Rattle.limits.proofs.Chains.{at-most, fewer}
 use Rattle.limits.proofs.Runs.{run-sound, Kept, kept}

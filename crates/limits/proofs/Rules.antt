@@ -1,5 +1,5 @@
 -- A start brings the lines about, and the rule of each kind keeps them. Assumes nothing.
-use mathlib.Core.Path.{_≡_, refl, sym, ap}
+use mathlib.Core.Path.{_≡_, refl, ap}
 use mathlib.Core.List.{List, [], _∷_}
 use Prim.Native.Nat.{ℕ, suc, _*_}
 use native.Mathlib.Nat.{mul-one, mul-suc}

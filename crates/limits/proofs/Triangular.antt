@@ -1,5 +1,5 @@
 -- Triangular numbers. Assumes nothing.
-use mathlib.Core.Path.{_≡_, refl}
+use mathlib.Core.Path.{refl}
 use Prim.Native.Nat.{ℕ, zero, suc, _+_, _*_, _^_, _≤_, _<_}
 use native.Mathlib.Nat.{suc-mul, mul-suc, mul-add, mul-le-mul, mul-le-mul-left}
 use native.Mathlib.Omega.{arith}
