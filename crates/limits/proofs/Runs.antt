@@ -16,8 +16,10 @@ use Rattle.machine.specs.declared.faults.MachineFault.{MachineFault}
 use Rattle.machine.specs.declared.faults.MachineFault.the-variants as refusal
 use Rattle.machine.specs.declared.outcomes.Transition.{Transition}
 use Rattle.machine.specs.declared.outcomes.Transition.the-variants.{Beta, Substitution, Search}
+use Rattle.machine.specs.declared.outcomes.Outcome.{Outcome}
+use Rattle.machine.specs.declared.outcomes.Outcome.the-variants.{Made}
 use Rattle.machine.specs.Meanings.{Standing, Meaning, Sound}
-use Rattle.machine.specs.Rules.{sized, AfterStart, Rule, Moved}
+use Rattle.machine.specs.Rules.{sized, AfterStart, AfterStep, Rule, Moved}
 use Rattle.limits.specs.Runs.{Run, started, stepped, Moves, unmoved, moved, RunsGrow}
 use Rattle.limits.specs.Limits.{Lines}
 use Rattle.limits.proofs.Chains.{one-more}
@@ -85,6 +87,11 @@ goes-on t ks _ m _ r (moved {ks = js} {n = n} w a o) = stepped (goes-on t ks js 
 keeps-capacity : (js : List Transition) (m n : Meaning) → Moves m js n → n .capacity ≡ m .capacity
 keeps-capacity _ m _ unmoved = refl
 keeps-capacity _ m _ (moved {ks = js} {n = n} w a o) = a .effect .capacity ∙ keeps-capacity js m n w
+
+-- the transition that a step answered, whatever names its answer has
+pub step-on :
+    (ks : List Transition) (k : Transition) (r : Result Outcome MachineFault) (m n o : Meaning) → Moves m ks n → AfterStep n r o → r ≡ Ok (Made k) → Sound o → Moves m (k ∷ ks) o
+step-on ks k r m n o w a e sound = moved w (subst (λ x. AfterStep n x o) e a) sound
 
 pub runs-grow : RunsGrow
 runs-grow = record { begins = begins; goes-on = goes-on; capacity = keeps-capacity }
