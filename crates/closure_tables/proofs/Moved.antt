@@ -189,7 +189,7 @@ beta-kept t k is h =
       cells = k .cells;
       entries = each-push (entry-inside n) 0 (t .entries) new (k .entries) (subst (λ m. entry-inside n m new ≡ true) (omega arith) (and-from _ _ (top-inside t k h) (le-leb _ _ (in-hand .chain))));
       stack = each-weaker (λ j. argument-inside n b) (λ j. argument-inside n (length (t .entries ++ new ∷ []))) 0 (rest t) (λ j a lt ok. argument-more n b (length (t .entries ++ new ∷ [])) a (omega arith) ok) (rest-inside t k h);
-      hand = argument-test n _ _ (record { node = inner; chain = omega arith });
+      hand = argument-test n (length (t .entries ++ new ∷ [])) (record { node = suc i; chain = Some b }) (record { node = inner; chain = omega arith });
       sound = next-sound t k _ (beta-next t k is h);
     }
 
@@ -235,7 +235,7 @@ substitution-kept t k j e is found =
       cells = k .cells;
       entries = k .entries;
       stack = k .stack;
-      hand = argument-test _ _ _ (record { node = h .node; chain = omega (arith, h .chain) });
+      hand = argument-test (length (t .cells)) (length (t .entries)) (getD (t .entries) e blank-entry .argument) (record { node = h .node; chain = omega (arith, h .chain) });
       sound = next-sound t k _ (substitution-next t k j e is found);
     }
 
