@@ -1,0 +1,118 @@
+-- Tables as configurations of the abstract machine: they are sound, and step as it does. Assumes nothing.
+use mathlib.Core.Path.{_≡_, refl, ap, sym, subst, _∙_}
+use mathlib.Core.Bool.{true, false, cond}
+use mathlib.Core.List.{List, [], _∷_}
+use Prim.Native.Nat.{ℕ, suc, _+_, _-_, _≤_, _<_}
+use native.Mathlib.Omega.{arith}
+use lib.Dec.{eqb}
+use lib.ListN.{length}
+use borrow.Author.Tests.{ne-eqb, eq-eqb, eqb-true, eqb-false}
+use Rattle.std.proofs.shelf.Tests.{cond-true, cond-false}
+use Rattle.std.specs.declared.option.Option.{Option}
+use Rattle.std.specs.declared.option.Option.the-variants.{Some, None}
+use Rattle.std.specs.declared.result.Result.{Result}
+use Rattle.std.specs.declared.result.Result.the-variants.{Ok, Err}
+use Rattle.machine.specs.declared.faults.MachineFault.{MachineFault}
+use Rattle.machine.specs.declared.faults.MachineFault.the-variants as refusal
+use Rattle.machine.specs.declared.outcomes.Transition.{Transition}
+use Rattle.machine.specs.declared.outcomes.Table.{Table}
+use Rattle.machine.specs.declared.outcomes.Outcome.{Outcome}
+use Rattle.machine.specs.declared.outcomes.Outcome.the-variants.{Made, Done, Full}
+use Rattle.machine.specs.Meanings.{Places, Due, transition, done, Within, most-places}
+use Rattle.machine.specs.Rules.{afforded, outcome-of, outcome-due}
+use Rattle.abstract_machine.specs.States.{State, due-of, next}
+use Rattle.abstract_machine.specs.Configurations.{Loaded, Configuration, free-of, explained, used-by, after-step, stepped, SoundLoaded, SoundConfiguration}
+use Rattle.closure_tables.specs.Tables.{Tables}
+use Rattle.closure_tables.specs.Presented.{closure-of, entry-piece, presented, loaded-in, configured, no-price}
+use Rattle.closure_tables.specs.Valid.{valid}
+use Rattle.closure_tables.specs.Steps.{StepsAs}
+use Rattle.closure_tables.proofs.Latest.{length-latest}
+use Rattle.closure_tables.proofs.Kept.{Kept, kept}
+
+abbrev held : Places → Places → Tables → Configuration
+held c u t = record { capacity = c; used = u; loaded = Some (record { size = length (t .cells); state = presented t }) }
+
+abbrev idle : Places → Places → Configuration
+idle c u = record { capacity = c; used = u; loaded = None }
+
+pub loaded-some : (t : Tables) → 0 < length (t .cells) → loaded-in t ≡ Some (record { size = length (t .cells); state = presented t })
+loaded-some t h =
+    let apart : length (t .cells) ≡ 0 → ⊥ = omega arith in
+    cond-false (eqb (length (t .cells)) 0) None _ (ne-eqb (length (t .cells)) 0 apart)
+
+pub loaded-none : (t : Tables) → length (t .cells) ≡ 0 → loaded-in t ≡ None
+loaded-none t h = cond-true (eqb (length (t .cells)) 0) None (Some (record { size = length (t .cells); state = presented t })) (eq-eqb (length (t .cells)) 0 h)
+
+held-is : (c u : Places) (t : Tables) → 0 < length (t .cells) → configured c u t ≡ held c u t
+held-is c u t h = ap (λ o. record { capacity = c; used = u; loaded = o }) (loaded-some t h)
+
+idle-is : (c u : Places) (t : Tables) → length (t .cells) ≡ 0 → configured c u t ≡ idle c u
+idle-is c u t h = ap (λ o. record { capacity = c; used = u; loaded = o }) (loaded-none t h)
+
+-- valid tables that are as full as their levels say are a sound configuration
+pub configured-sound :
+    (c u : Places) (t : Tables) → Within c most-places → Within u c → u .stack ≡ length (t .stack) → u .entries ≡ length (t .entries) → valid t ≡ true →
+    SoundConfiguration (configured c u t)
+configured-sound c u t limited within stack entries ok = record { limited = limited; within = within; loaded = loaded-sound }
+  where
+    loaded-sound : (l : Loaded) → loaded-in t ≡ Some l → SoundLoaded u l
+    loaded-sound l is =
+        elim (eqb (length (t .cells)) 0) as (λ b. eqb (length (t .cells)) 0 ≡ b → SoundLoaded u l) [
+        | true ↦ λ e.
+            let none = loaded-none t (eqb-true (length (t .cells)) 0 e) in
+            let z : _≡_ {A = ℕ} 0 1 = cc in
+            absurd (omega arith)
+        | false ↦ λ e.
+            let apart = eqb-false (length (t .cells)) 0 e in
+            let some : 0 < length (t .cells) = omega arith in
+            let here = loaded-some t some in
+            let same : record { size = length (t .cells); state = presented t } ≡ l = cc in
+            let k = kept t some ok in
+            subst (SoundLoaded u) same
+            (record {
+              some = some;
+              state = k .sound;
+              stack = stack ∙ sym (length-latest (closure-of (t .cells) (t .entries)) (t .stack));
+              entries = entries ∙ sym (length-latest (entry-piece (t .cells) (t .entries)) (t .entries))
+            })
+        ] refl
+
+-- a step that is answered o, in a configuration that holds a state with d due
+outcome-is : (c u : Places) (t : Tables) (d : Due) (o : Outcome) → due-of (presented t) ≡ d → outcome-of (free-of (held c u t)) 0 d ≡ o → outcome-due (explained no-price (held c u t)) ≡ Ok o
+outcome-is c u t d o due is = ap (λ x. Ok (outcome-of (free-of (held c u t)) 0 x)) due ∙ ap Ok is
+
+-- from a configuration that is known to hold a state
+from-held : (c u : Places) (t : Tables) (r : Result Outcome MachineFault) (y : Configuration) → 0 < length (t .cells) → StepsAs (held c u t) r y → StepsAs (configured c u t) r y
+from-held c u t r y h s = subst (λ x. StepsAs x r y) (sym (held-is c u t h)) s
+
+after-of : (x y : Configuration) (r : Result Outcome MachineFault) → outcome-due (explained no-price x) ≡ r → y ≡ after-step no-price r x → StepsAs x r y
+after-of x y r answer after = record { answer = sym answer; after = after ∙ ap (λ a. after-step no-price a x) (sym answer) }
+
+pub made-as :
+    (c u : Places) (t t′ : Tables) (k : Transition) → 0 < length (t .cells) → length (t′ .cells) ≡ length (t .cells) →
+    due-of (presented t) ≡ transition k → afforded (free-of (configured c u t)) 0 k ≡ Made k → presented t′ ≡ next (presented t) →
+    StepsAs (configured c u t) (Ok (Made k)) (configured c (used-by k 0 u) t′)
+made-as c u t t′ k h long due fits is =
+    let u′ = used-by k 0 u in
+    let moved : held c u′ t′ ≡ record { capacity = c; used = u′; loaded = Some (record { size = length (t .cells); state = next (presented t) }) } = cc in
+    from-held c u t (Ok (Made k)) (configured c u′ t′) h
+    (after-of (held c u t) (configured c u′ t′) (Ok (Made k)) (outcome-is c u t (transition k) (Made k) due fits)
+     (held-is c u′ t′ (omega arith) ∙ moved))
+
+pub full-as :
+    (c u : Places) (t : Tables) (k : Transition) (b : Table) → 0 < length (t .cells) →
+    due-of (presented t) ≡ transition k → afforded (free-of (configured c u t)) 0 k ≡ Full b →
+    StepsAs (configured c u t) (Ok (Full b)) (configured c u t)
+full-as c u t k b h due fits =
+    from-held c u t (Ok (Full b)) (configured c u t) h
+    (after-of (held c u t) (configured c u t) (Ok (Full b)) (outcome-is c u t (transition k) (Full b) due fits) (held-is c u t h))
+
+pub done-as : (c u : Places) (t : Tables) → 0 < length (t .cells) → due-of (presented t) ≡ done → StepsAs (configured c u t) (Ok Done) (configured c u t)
+done-as c u t h due =
+    from-held c u t (Ok Done) (configured c u t) h
+    (after-of (held c u t) (configured c u t) (Ok Done) (outcome-is c u t done Done due refl) (held-is c u t h))
+
+pub empty-as : (c u : Places) (t : Tables) → length (t .cells) ≡ 0 → StepsAs (configured c u t) (Err refusal.Empty) (configured c u t)
+empty-as c u t h =
+    subst (λ x. StepsAs x (Err refusal.Empty) (configured c u t)) (sym (idle-is c u t h))
+    (after-of (idle c u) (configured c u t) (Err refusal.Empty) refl (idle-is c u t h))
