@@ -5,3 +5,4 @@ pub mod Pieces
 pub mod Kept
 pub mod Moved
 pub mod Storing
+pub mod Started
