@@ -28,6 +28,12 @@ each-push test n (y ∷ xs) x e h =
     let same : n + suc (length xs) ≡ suc n + length xs = omega arith in
     and-from _ _ (and-parts _ _ e .0) (each-push test (suc n) xs x (and-parts _ _ e .1) (subst (λ m. test m x ≡ true) same h))
 
+pub each-append : {X : Type 0} (test : ℕ → X → Bool) (n : ℕ) (xs ys : List X) → each test n xs ≡ true → each test (n + length xs) ys ≡ true → each test n (xs ++ ys) ≡ true
+each-append test n [] ys e f = subst (λ m. each test m ys ≡ true) (add-zero n) f
+each-append test n (x ∷ xs) ys e f =
+    let same : n + suc (length xs) ≡ suc n + length xs = omega arith in
+    and-from _ _ (and-parts _ _ e .0) (each-append test (suc n) xs ys (and-parts _ _ e .1) (subst (λ m. each test m ys ≡ true) same f))
+
 pub each-front : {X : Type 0} (test : ℕ → X → Bool) (n : ℕ) (xs ys : List X) → each test n (xs ++ ys) ≡ true → each test n xs ≡ true
 each-front test n [] ys e = refl
 each-front test n (x ∷ xs) ys e = and-from _ _ (and-parts _ _ e .0) (each-front test (suc n) xs ys (and-parts _ _ e .1))

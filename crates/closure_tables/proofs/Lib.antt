@@ -3,5 +3,7 @@ pub mod Latest
 pub mod Chains
 pub mod Pieces
 pub mod Kept
+pub mod Storing
+pub mod Started
 pub mod Moved
 pub mod Agree
