@@ -7,7 +7,7 @@ use native.Mathlib.Omega.{arith}
 use lib.Dec.{eqb}
 use lib.ListN.{length}
 use borrow.Author.Tests.{ne-eqb, eq-eqb, eqb-true, eqb-false}
-use Rattle.std.proofs.shelf.Tests.{cond-true, cond-false}
+use Rattle.std.proofs.shelf.Tests.{cond-true, cond-false, lt-ltb, le-ltb, le-leb}
 use Rattle.std.specs.declared.option.Option.{Option}
 use Rattle.std.specs.declared.option.Option.the-variants.{Some, None}
 use Rattle.std.specs.declared.result.Result.{Result}
@@ -15,7 +15,9 @@ use Rattle.std.specs.declared.result.Result.the-variants.{Ok, Err}
 use Rattle.machine.specs.declared.faults.MachineFault.{MachineFault}
 use Rattle.machine.specs.declared.faults.MachineFault.the-variants as refusal
 use Rattle.machine.specs.declared.outcomes.Transition.{Transition}
+use Rattle.machine.specs.declared.outcomes.Transition.the-variants.{Beta, Substitution, Search}
 use Rattle.machine.specs.declared.outcomes.Table.{Table}
+use Rattle.machine.specs.declared.outcomes.Table.the-variants.{Stack, Entries, Nodes}
 use Rattle.machine.specs.declared.outcomes.Outcome.{Outcome}
 use Rattle.machine.specs.declared.outcomes.Outcome.the-variants.{Made, Done, Full}
 use Rattle.machine.specs.Meanings.{Places, Due, transition, done, Within, most-places}
@@ -26,8 +28,12 @@ use Rattle.closure_tables.specs.Tables.{Tables}
 use Rattle.closure_tables.specs.Presented.{closure-of, entry-piece, presented, loaded-in, configured, no-price}
 use Rattle.closure_tables.specs.Valid.{valid}
 use Rattle.closure_tables.specs.Steps.{StepsAs}
+use Rattle.closure_tables.specs.Moves.{descended, entered, fetched}
+use Rattle.closure_tables.specs.declared.rows.Cell.the-variants as cell
+use Rattle.std.specs.Finite.{nth}
 use Rattle.closure_tables.proofs.Latest.{length-latest}
-use Rattle.closure_tables.proofs.Kept.{Kept, kept}
+use Rattle.closure_tables.proofs.Kept.{Kept, kept, kept-valid}
+use Rattle.closure_tables.proofs.Moved.{Hand, hand-chain, search-due, search-next, search-kept, beta-due, beta-next, beta-kept, substitution-due, substitution-next, substitution-kept, function-done, ingredient-done}
 
 abbrev held : Places → Places → Tables → Configuration
 held c u t = record { capacity = c; used = u; loaded = Some (record { size = length (t .cells); state = presented t }) }
@@ -116,3 +122,61 @@ pub empty-as : (c u : Places) (t : Tables) → length (t .cells) ≡ 0 → Steps
 empty-as c u t h =
     subst (λ x. StepsAs x (Err refusal.Empty) (configured c u t)) (sym (idle-is c u t h))
     (after-of (idle c u) (configured c u t) (Err refusal.Empty) refl (idle-is c u t h))
+
+-- each transition, where its table has room and where it has none
+
+pub search-as :
+    (c u : Places) (t : Tables) (r : ℕ) → 0 < length (t .cells) → valid t ≡ true → Hand t (cell.Application r) → u .stack < c .stack →
+    StepsAs (configured c u t) (Ok (Made Search)) (configured c (used-by Search 0 u) (descended r t))
+search-as c u t r h ok is room =
+    let k = kept t h ok in
+    let some = lt-ltb 0 (c .stack - u .stack) (omega arith) in
+    made-as c u t (descended r t) Search h refl (search-due t k r is) (cond-true _ (Made Search) (Full Stack) some) (search-next t k r is)
+
+pub search-full-as :
+    (c u : Places) (t : Tables) (r : ℕ) → 0 < length (t .cells) → valid t ≡ true → Hand t (cell.Application r) → c .stack ≤ u .stack →
+    StepsAs (configured c u t) (Ok (Full Stack)) (configured c u t)
+search-full-as c u t r h ok is none =
+    let k = kept t h ok in
+    full-as c u t Search Stack h (search-due t k r is) (cond-false _ (Made Search) (Full Stack) (le-ltb 0 (c .stack - u .stack) (omega arith)))
+
+pub beta-as :
+    (c u : Places) (t : Tables) → 0 < length (t .cells) → valid t ≡ true → Hand t cell.Function → 0 < length (t .stack) → u .entries < c .entries →
+    StepsAs (configured c u t) (Ok (Made Beta)) (configured c (used-by Beta 0 u) (entered t))
+beta-as c u t h ok is some room =
+    let k = kept t h ok in
+    let free = lt-ltb 0 (c .entries - u .entries) (omega arith) in
+    made-as c u t (entered t) Beta h refl (beta-due t k is some) (cond-true _ (Made Beta) (Full Entries) free) (beta-next t k is some)
+
+pub beta-full-as :
+    (c u : Places) (t : Tables) → 0 < length (t .cells) → valid t ≡ true → Hand t cell.Function → 0 < length (t .stack) → c .entries ≤ u .entries →
+    StepsAs (configured c u t) (Ok (Full Entries)) (configured c u t)
+beta-full-as c u t h ok is some none =
+    let k = kept t h ok in
+    full-as c u t Beta Entries h (beta-due t k is some) (cond-false _ (Made Beta) (Full Entries) (le-ltb 0 (c .entries - u .entries) (omega arith)))
+
+pub substitution-as :
+    (c u : Places) (t : Tables) (j e : ℕ) → 0 < length (t .cells) → valid t ≡ true → Hand t (cell.Place j) → nth (hand-chain t) j ≡ Some e →
+    StepsAs (configured c u t) (Ok (Made Substitution)) (configured c (used-by Substitution 0 u) (fetched e t))
+substitution-as c u t j e h ok is found =
+    let k = kept t h ok in
+    made-as c u t (fetched e t) Substitution h refl (substitution-due t k j e is found) (cond-true _ (Made Substitution) (Full Nodes) (le-leb 0 (c .nodes - u .nodes) (omega arith))) (substitution-next t k j e is found)
+
+pub function-done-as :
+    (c u : Places) (t : Tables) → 0 < length (t .cells) → valid t ≡ true → Hand t cell.Function → length (t .stack) ≡ 0 → StepsAs (configured c u t) (Ok Done) (configured c u t)
+function-done-as c u t h ok is none = done-as c u t h (function-done t (kept t h ok) is none)
+
+pub ingredient-done-as :
+    (c u : Places) (t : Tables) (j : ℕ) → 0 < length (t .cells) → valid t ≡ true → Hand t (cell.Ingredient j) → StepsAs (configured c u t) (Ok Done) (configured c u t)
+ingredient-done-as c u t j h ok is = done-as c u t h (ingredient-done t (kept t h ok) j is)
+
+-- and each leaves valid tables
+
+pub search-valid : (t : Tables) (r : ℕ) → 0 < length (t .cells) → valid t ≡ true → Hand t (cell.Application r) → valid (descended r t) ≡ true
+search-valid t r h ok is = kept-valid (descended r t) h (search-kept t (kept t h ok) r is)
+
+pub beta-valid : (t : Tables) → 0 < length (t .cells) → valid t ≡ true → Hand t cell.Function → 0 < length (t .stack) → valid (entered t) ≡ true
+beta-valid t h ok is some = kept-valid (entered t) h (beta-kept t (kept t h ok) is some)
+
+pub substitution-valid : (t : Tables) (j e : ℕ) → 0 < length (t .cells) → valid t ≡ true → Hand t (cell.Place j) → nth (hand-chain t) j ≡ Some e → valid (fetched e t) ≡ true
+substitution-valid t j e h ok is found = kept-valid (fetched e t) h (substitution-kept t (kept t h ok) j e is found)

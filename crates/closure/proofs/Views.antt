@@ -1,0 +1,18 @@
+-- How long the closure machine's tables are below their levels. Assumes nothing.
+use mathlib.Core.Path.{_≡_, refl, ap, sym, _∙_}
+use mathlib.Core.List.{List}
+use Prim.Native.Nat.{ℕ, _≤_}
+use native.Mathlib.Omega.{arith}
+use lib.ListN.{length, take}
+use lib.Seq.{length-take-le}
+use Rattle.closure.specs.declared.state.Closure.{Closure}
+use Rattle.closure.specs.Views.{tables-of}
+
+pub cells-long : (m : Closure) → length (tables-of m .cells) ≡ m .levels .nodes .used
+cells-long m = length-take-le _ _ (omega (arith, m .levels .nodes .within, m .«nodes_fit», m .nodes .cells .ok))
+
+pub entries-long : (m : Closure) → length (tables-of m .entries) ≡ m .levels .entries .used
+entries-long m = length-take-le _ _ (omega (arith, m .levels .entries .within, m .«entries_fit», m .entries .ok))
+
+pub stack-long : (m : Closure) → length (tables-of m .stack) ≡ m .levels .stack .used
+stack-long m = length-take-le _ _ (omega (arith, m .levels .stack .within, m .«stack_fit», m .stack .ok))
