@@ -64,23 +64,23 @@ configured-sound c u t limited within stack entries ok = record { limited = limi
     loaded-sound : (l : Loaded) → loaded-in t ≡ Some l → SoundLoaded u l
     loaded-sound l is =
         elim (eqb (length (t .cells)) 0) as (λ b. eqb (length (t .cells)) 0 ≡ b → SoundLoaded u l) [
-        | true ↦ λ e.
-            let none = loaded-none t (eqb-true (length (t .cells)) 0 e) in
-            let z : _≡_ {A = ℕ} 0 1 = cc in
-            absurd (omega arith)
-        | false ↦ λ e.
-            let apart = eqb-false (length (t .cells)) 0 e in
-            let some : 0 < length (t .cells) = omega arith in
-            let here = loaded-some t some in
-            let same : record { size = length (t .cells); state = presented t } ≡ l = cc in
-            let k = kept t some ok in
-            subst (SoundLoaded u) same
-            (record {
-              some = some;
-              state = k .sound;
-              stack = stack ∙ sym (length-latest (closure-of (t .cells) (t .entries)) (t .stack));
-              entries = entries ∙ sym (length-latest (entry-piece (t .cells) (t .entries)) (t .entries))
-            })
+          | true ↦ λ e.
+              let none = loaded-none t (eqb-true (length (t .cells)) 0 e) in
+              let z : _≡_ {A = ℕ} 0 1 = cc in
+              absurd (omega arith)
+          | false ↦ λ e.
+              let apart = eqb-false (length (t .cells)) 0 e in
+              let some : 0 < length (t .cells) = omega arith in
+              let here = loaded-some t some in
+              let same : record { size = length (t .cells); state = presented t } ≡ l = cc in
+              let k = kept t some ok in
+              subst (SoundLoaded u) same
+              (record {
+                some = some;
+                state = k .sound;
+                stack = stack ∙ sym (length-latest (closure-of (t .cells) (t .entries)) (t .stack));
+                entries = entries ∙ sym (length-latest (entry-piece (t .cells) (t .entries)) (t .entries));
+              })
         ] refl
 
 -- a step that is answered o, in a configuration that holds a state with d due
@@ -103,7 +103,7 @@ made-as c u t t′ k h long due fits is =
     let moved : held c u′ t′ ≡ record { capacity = c; used = u′; loaded = Some (record { size = length (t .cells); state = next (presented t) }) } = cc in
     from-held c u t (Ok (Made k)) (configured c u′ t′) h
     (after-of (held c u t) (configured c u′ t′) (Ok (Made k)) (outcome-is c u t (transition k) (Made k) due fits)
-     (held-is c u′ t′ (omega arith) ∙ moved))
+    (held-is c u′ t′ (omega arith) ∙ moved))
 
 pub full-as :
     (c u : Places) (t : Tables) (k : Transition) (b : Table) → 0 < length (t .cells) →

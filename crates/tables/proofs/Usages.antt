@@ -18,8 +18,8 @@ pub record Taken (u : Usage) (at : ℕ) : Type 0 where
 pub taken : (u : Usage) (at : ℕ) → Some at ≡ first-free u → Taken u at
 taken u at e =
     elim (ltb (u .used) (u .capacity)) as (λ b. ltb (u .used) (u .capacity) ≡ b → Some at ≡ cond b (Some (u .used)) None → Taken u at) [
-    | true ↦ λ t is. record { at-level = cc; free = ltb-true _ _ t; level = let more = cond-true _ (u .used + 1) (u .used) t in omega arith }
-    | false ↦ λ f is. let z : _≡_ {A = ℕ} 0 1 = cc in absurd (omega arith)
+      | true ↦ λ t is. record { at-level = cc; free = ltb-true _ _ t; level = let more = cond-true _ (u .used + 1) (u .used) t in omega arith }
+      | false ↦ λ f is. let z : _≡_ {A = ℕ} 0 1 = cc in absurd (omega arith)
     ] refl e
 
 -- none was free
@@ -30,8 +30,8 @@ pub record Untaken (u : Usage) : Type 0 where
 pub untaken : (u : Usage) → None ≡ first-free u → Untaken u
 untaken u e =
     elim (ltb (u .used) (u .capacity)) as (λ b. ltb (u .used) (u .capacity) ≡ b → None ≡ cond b (Some (u .used)) None → Untaken u) [
-    | true ↦ λ t is. let z : _≡_ {A = ℕ} 0 1 = cc in absurd (omega arith)
-    | false ↦ λ f is. record { full = ltb-false _ _ f; level = cond-false _ (u .used + 1) (u .used) f }
+      | true ↦ λ t is. let z : _≡_ {A = ℕ} 0 1 = cc in absurd (omega arith)
+      | false ↦ λ f is. record { full = ltb-false _ _ f; level = cond-false _ (u .used + 1) (u .used) f }
     ] refl e
 
 -- a place was given back
@@ -42,14 +42,14 @@ pub record Released (u : Usage) (at : ℕ) : Type 0 where
 pub released : (u : Usage) (at : ℕ) → Some at ≡ last-used u → Released u at
 released u at e =
     elim (ltb 0 (u .used)) as (λ b. ltb 0 (u .used) ≡ b → Some at ≡ cond b (Some (u .used - 1)) None → Released u at) [
-    | true ↦ λ t is. record { at-level = cc; some = ltb-true _ _ t }
-    | false ↦ λ f is. let z : _≡_ {A = ℕ} 0 1 = cc in absurd (omega arith)
+      | true ↦ λ t is. record { at-level = cc; some = ltb-true _ _ t }
+      | false ↦ λ f is. let z : _≡_ {A = ℕ} 0 1 = cc in absurd (omega arith)
     ] refl e
 
 -- none was in use
 pub none-used : (u : Usage) → None ≡ last-used u → u .used ≡ 0
 none-used u e =
     elim (ltb 0 (u .used)) as (λ b. ltb 0 (u .used) ≡ b → None ≡ cond b (Some (u .used - 1)) None → u .used ≡ 0) [
-    | true ↦ λ t is. let z : _≡_ {A = ℕ} 0 1 = cc in absurd (omega arith)
-    | false ↦ λ f is. omega (arith, ltb-false _ _ f)
+      | true ↦ λ t is. let z : _≡_ {A = ℕ} 0 1 = cc in absurd (omega arith)
+      | false ↦ λ f is. omega (arith, ltb-false _ _ f)
     ] refl e
