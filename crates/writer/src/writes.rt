@@ -28,9 +28,10 @@ fn put(output: &mut [u8], at: usize, head: Head) -> Option<usize>
             Some(at + 2)
         }
         Head::Ingredient(number) if room >= 3 => {
+            let [high, low] = number.to_be_bytes();
             output[at] = 4;
-            output[at + 1] = (number / 256) as u8;
-            output[at + 2] = (number % 256) as u8;
+            output[at + 1] = high;
+            output[at + 2] = low;
             Some(at + 3)
         }
         _ => None,
