@@ -6,21 +6,21 @@ use Prim.Native.Nat.{ℕ, zero, suc, _+_, _≤_, _<_}
 use native.Mathlib.Omega.{arith}
 use native.Mathlib.Numerals.{add-one}
 use lib.ListN.{length, getD, set, take, drop, length-append}
-use lib.Seq.{sets, sets-eq, length-sets}
+use lib.Seq.{sets-eq, length-sets}
 use Rattle.std.proofs.shelf.Lists.{append-assoc, append-nil, getD-set-same, getD-set-other, length-take-le, take-append-drop, take-at, drop-at, drop-drop}
 use Rattle.std.proofs.shelf.Tests.{le-leb, lt-leb, cond-false}
-use Rattle.std.specs.Options.{mapped, Cases}
+use Rattle.std.specs.Options.{mapped}
 use Rattle.std.specs.declared.option.Option.{Option}
 use Rattle.std.specs.declared.option.Option.the-variants.{Some, None}
 use Rattle.std.specs.declared.result.Result.the-variants.{Ok}
-use Rattle.term.specs.Terms.{Term, place, ingredient, function, application, code}
+use Rattle.term.specs.Terms.{Term, function, application, code}
 use Rattle.machine.specs.Writing.{put-code, wiped, zeros}
 use Rattle.writer.specs.declared.heads.Head.{Head}
 use Rattle.writer.specs.declared.heads.Head.the-variants.{Application, Function, Place, Ingredient, Nothing}
 use Rattle.writer.specs.Heads.{both, Looks}
-use Rattle.writer.specs.Walks.{own, AfterPut, Turn, popped, turned, AfterTurn, AfterWalk}
+use Rattle.writer.specs.Walks.{own, AfterPut, Ahead, popped, advanced, AfterAdvance, AfterWalk}
 
--- the positions of its parts, before others
+-- the positions of the parts of a head, before others
 abbrev pub parts : Head → List ℕ → List ℕ
 parts (Application l r) ps = l ∷ r ∷ ps
 parts (Function b) ps = b ∷ ps
@@ -29,50 +29,50 @@ parts (Ingredient i) ps = ps
 parts Nothing ps = ps
 
 -- the first n positions of the scratch, the last of them first
-abbrev pub piled : List ℕ → ℕ → List ℕ
-piled scratch zero = []
-piled scratch (suc n) = getD scratch n 0 ∷ piled scratch n
+abbrev pub stacked : List ℕ → ℕ → List ℕ
+stacked scratch zero = []
+stacked scratch (suc n) = getD scratch n 0 ∷ stacked scratch n
 
--- the positions of what is still to be written; where there is no next one, none is put aside
+-- the positions of what is still to be written; where there is no next one, none is pending
 abbrev pub to-come : Option ℕ → List ℕ → ℕ → List ℕ
 to-come None scratch n = []
-to-come (Some p) scratch n = p ∷ piled scratch n
+to-come (Some p) scratch n = p ∷ stacked scratch n
 
--- a turn
+-- an advance
 
-piled-set : (scratch : List ℕ) (j p n : ℕ) → n ≤ j → piled (set scratch j p) n ≡ piled scratch n
-piled-set scratch j p zero h = refl
-piled-set scratch j p (suc n) h =
+stacked-set : (scratch : List ℕ) (j p n : ℕ) → n ≤ j → stacked (set scratch j p) n ≡ stacked scratch n
+stacked-set scratch j p zero h = refl
+stacked-set scratch j p (suc n) h =
     let ne : n ≢ j = omega arith in
     let here = getD-set-other scratch j n p 0 ne in
-    let below = piled-set scratch j p n (omega arith) in
+    let below = stacked-set scratch j p n (omega arith) in
     cc
 
-abbrev coming : Turn → List ℕ
-coming t = to-come (t .next) (t .scratch) (t .aside)
+abbrev coming : Ahead → List ℕ
+coming t = to-come (t .next) (t .scratch) (t .pending)
 
-popped-coming : (scratch : List ℕ) (n : ℕ) → coming (popped scratch n) ≡ piled scratch n
+popped-coming : (scratch : List ℕ) (n : ℕ) → coming (popped scratch n) ≡ stacked scratch n
 popped-coming scratch zero = refl
 popped-coming scratch (suc n) = refl
 
-pub turned-coming : (h : Head) (scratch : List ℕ) (n : ℕ) → n < length scratch → coming (turned h scratch n) ≡ parts h (piled scratch n)
-turned-coming (Application l r) scratch n h =
-    rw (add-one, getD-set-same scratch n r 0 h, piled-set scratch n r n (omega arith)) refl
-turned-coming (Function b) scratch n h = refl
-turned-coming (Place k) scratch n h = popped-coming scratch n
-turned-coming (Ingredient i) scratch n h = popped-coming scratch n
-turned-coming Nothing scratch n h = popped-coming scratch n
+advanced-coming : (h : Head) (scratch : List ℕ) (n : ℕ) → n < length scratch → coming (advanced h scratch n) ≡ parts h (stacked scratch n)
+advanced-coming (Application l r) scratch n h =
+    rw (add-one, getD-set-same scratch n r 0 h, stacked-set scratch n r n (omega arith)) refl
+advanced-coming (Function b) scratch n h = refl
+advanced-coming (Place k) scratch n h = popped-coming scratch n
+advanced-coming (Ingredient i) scratch n h = popped-coming scratch n
+advanced-coming Nothing scratch n h = popped-coming scratch n
 
-popped-aside : (scratch : List ℕ) (n : ℕ) → popped scratch n .aside ≤ n
-popped-aside scratch zero = omega arith
-popped-aside scratch (suc n) = omega arith
+popped-pending : (scratch : List ℕ) (n : ℕ) → popped scratch n .pending ≤ n
+popped-pending scratch zero = omega arith
+popped-pending scratch (suc n) = omega arith
 
-pub turned-aside : (h : Head) (scratch : List ℕ) (n : ℕ) → turned h scratch n .aside ≤ n + 1
-turned-aside (Application l r) scratch n = omega arith
-turned-aside (Function b) scratch n = omega arith
-turned-aside (Place k) scratch n = omega (arith, popped-aside scratch n)
-turned-aside (Ingredient i) scratch n = omega (arith, popped-aside scratch n)
-turned-aside Nothing scratch n = omega (arith, popped-aside scratch n)
+advanced-pending : (h : Head) (scratch : List ℕ) (n : ℕ) → advanced h scratch n .pending ≤ n + 1
+advanced-pending (Application l r) scratch n = omega arith
+advanced-pending (Function b) scratch n = omega arith
+advanced-pending (Place k) scratch n = omega (arith, popped-pending scratch n)
+advanced-pending (Ingredient i) scratch n = omega (arith, popped-pending scratch n)
+advanced-pending Nothing scratch n = omega (arith, popped-pending scratch n)
 
 -- codes of terms that may be missing
 
@@ -86,10 +86,6 @@ body-code : (t : Option Term) (cs : Option (List ℕ)) → both _++_ (mapped cod
 body-code None cs = refl
 body-code (Some t) None = refl
 body-code (Some t) (Some z) = refl
-
-whole-code : (t : Option Term) → mapped (λ z. z) (both _++_ (mapped code t) (Some [])) ≡ mapped code t
-whole-code None = refl
-whole-code (Some t) = ap Some (append-nil (code t))
 
 further : (a b : List ℕ) (cs : Option (List ℕ)) → mapped (λ z. a ++ b ++ z) cs ≡ mapped (λ z. a ++ z) (both _++_ (Some b) cs)
 further a b None = refl
@@ -108,7 +104,7 @@ module _ (at : ℕ → Option Term) where
   codes (p ∷ ps) = both _++_ (mapped code (at p)) (codes ps)
 
   -- the first of them is the bytes of its head and the codes of its parts
-  pub head-codes : (h : Head) (p : ℕ) (ps : List ℕ) → Looks at p h → codes (p ∷ ps) ≡ both _++_ (own h) (codes (parts h ps))
+  head-codes : (h : Head) (p : ℕ) (ps : List ℕ) → Looks at p h → codes (p ∷ ps) ≡ both _++_ (own h) (codes (parts h ps))
   head-codes (Application l r) p ps is = rw is (sides-code (at l) (at r) (codes ps))
   head-codes (Function b) p ps is = rw is (body-code (at b) (codes ps))
   head-codes (Place k) p ps is = rw is refl
@@ -150,9 +146,6 @@ module _ (at : ℕ → Option Term) (root : ℕ) (given : List ℕ) where
     pub back : drop end output ≡ drop end given
     pub whole : mapped (λ z. take end output ++ z) (codes at ps) ≡ mapped code (at root)
 
-  pub begins : Underway 0 given (root ∷ [])
-  begins = record { room = omega arith; size = refl; back = refl; whole = whole-code (at root) }
-
   -- bytes are put
   put-on : {end e : ℕ} {output output′ ps : List ℕ} (mine : Option (List ℕ)) (qs : List ℕ) → Underway end output ps → codes at ps ≡ both _++_ mine (codes at qs) → AfterPut mine end output (Some e) output′ → Underway e output′ qs
   put-on None qs u split put = let n : _≡_ {A = ℕ} 0 1 = cc in absurd (omega arith)
@@ -171,13 +164,13 @@ module _ (at : ℕ → Option Term) (root : ℕ) (given : List ℕ) where
       }
 
   -- a head is put, and its parts are what comes next
-  pub goes-on : {end e n′ : ℕ} {output output′ scratch′ : List ℕ} {next r : Option ℕ} (scratch : List ℕ) (n : ℕ) (h : Head) {p : ℕ} → Underway end output (to-come next scratch n) → next ≡ Some p → Looks at p h → AfterPut (own h) end output (Some e) output′ → n ≤ end → length given ≤ length scratch → AfterTurn h scratch n r scratch′ n′ → (n′ ≤ e) × Underway e output′ (to-come r scratch′ n′)
-  goes-on {end} {e} {output = output} {output′ = output′} scratch n h {p} u some is put low room turn =
-      let now = ap (λ o. codes at (to-come o scratch n)) some ∙ head-codes at h p (piled scratch n) is in
-      let v = put-on (own h) (parts h (piled scratch n)) u now put in
+  pub goes-on : {end e n′ : ℕ} {output output′ scratch′ : List ℕ} {next r : Option ℕ} (scratch : List ℕ) (n : ℕ) (h : Head) {p : ℕ} → Underway end output (to-come next scratch n) → next ≡ Some p → Looks at p h → AfterPut (own h) end output (Some e) output′ → n ≤ end → length given ≤ length scratch → AfterAdvance h scratch n r scratch′ n′ → (n′ ≤ e) × Underway e output′ (to-come r scratch′ n′)
+  goes-on {end} {e} {output = output} {output′ = output′} scratch n h {p} u some is put low room ahead =
+      let now = ap (λ o. codes at (to-come o scratch n)) some ∙ head-codes at h p (stacked scratch n) is in
+      let v = put-on (own h) (parts h (stacked scratch n)) u now put in
       let more = grows h end e output output′ put in
-      let coming′ = ap coming turn ∙ turned-coming h scratch n (omega (arith, v .room, v .size)) in
-      (omega (arith, ap (λ t. t .aside) turn, turned-aside h scratch n), subst (Underway e output′) (sym coming′) v)
+      let coming′ = ap coming ahead ∙ advanced-coming h scratch n (omega (arith, v .room, v .size)) in
+      (omega (arith, ap (λ t. t .pending) ahead, advanced-pending h scratch n), subst (Underway e output′) (sym coming′) v)
 
   -- bytes are not put
   not-put : {end : ℕ} {output ps : List ℕ} (output′ : List ℕ) (mine cs : Option (List ℕ)) → Underway end output ps → codes at ps ≡ both _++_ mine cs → AfterPut mine end output None output′ → (z : List ℕ) → codes at ps ≡ Some z → length given < length (take end output) + length z
@@ -187,8 +180,8 @@ module _ (at : ℕ → Option Term) (root : ℕ) (given : List ℕ) where
 
   pub stops : {end : ℕ} {output : List ℕ} {next : Option ℕ} (scratch : List ℕ) (n : ℕ) (h : Head) {p : ℕ} (output′ : List ℕ) → Underway end output (to-come next scratch n) → next ≡ Some p → Looks at p h → AfterPut (own h) end output None output′ → AfterWalk (at root) given None output′
   stops scratch n h {p} output′ u some is put =
-      let now = ap (λ o. codes at (to-come o scratch n)) some ∙ head-codes at h p (piled scratch n) is in
-      refused (at root) _ _ given (u .whole) (not-put output′ (own h) (codes at (parts h (piled scratch n))) u now put)
+      let now = ap (λ o. codes at (to-come o scratch n)) some ∙ head-codes at h p (stacked scratch n) is in
+      refused (at root) _ _ given (u .whole) (not-put output′ (own h) (codes at (parts h (stacked scratch n))) u now put)
 
   -- nothing is to come
   pub ends : {end : ℕ} {output : List ℕ} {next : Option ℕ} (scratch : List ℕ) (n : ℕ) → Underway end output (to-come next scratch n) → next ≡ None → AfterWalk (at root) given (Some end) output

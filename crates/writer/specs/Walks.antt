@@ -27,27 +27,29 @@ AfterPut None at output r output′ = r ≡ None
 AfterPut (Some bs) at output r output′ =
     Cases r (length output < at + length bs) (λ e. (e ≡ at + length bs) × (e ≤ length output) × (output′ ≡ sets output at bs))
 
--- after a turn
-pub record Turn : Type 0 where
+-- what is ahead: the next position, then so many positions at the front of the scratch, the latest first
+pub record Ahead : Type 0 where
   pub next : Option ℕ
   pub scratch : List ℕ
-  pub aside : ℕ
+  pub pending : ℕ
 
-abbrev pub popped : List ℕ → ℕ → Turn
-popped scratch zero = record { next = None; scratch = scratch; aside = 0 }
-popped scratch (suc n) = record { next = Some (getD scratch n 0); scratch = scratch; aside = n }
+-- the latest of those that are pending comes next
+abbrev pub popped : List ℕ → ℕ → Ahead
+popped scratch zero = record { next = None; scratch = scratch; pending = 0 }
+popped scratch (suc n) = record { next = Some (getD scratch n 0); scratch = scratch; pending = n }
 
-abbrev pub turned : Head → List ℕ → ℕ → Turn
-turned (Application l r) scratch n = record { next = Some l; scratch = set scratch n r; aside = n + 1 }
-turned (Function b) scratch n = record { next = Some b; scratch = scratch; aside = n }
-turned (Place k) scratch n = popped scratch n
-turned (Ingredient i) scratch n = popped scratch n
-turned Nothing scratch n = popped scratch n
+-- what is ahead behind a head: its first part, while a right side waits for the left one
+abbrev pub advanced : Head → List ℕ → ℕ → Ahead
+advanced (Application l r) scratch n = record { next = Some l; scratch = set scratch n r; pending = n + 1 }
+advanced (Function b) scratch n = record { next = Some b; scratch = scratch; pending = n }
+advanced (Place k) scratch n = popped scratch n
+advanced (Ingredient i) scratch n = popped scratch n
+advanced Nothing scratch n = popped scratch n
 
-abbrev pub AfterTurn : Head → List ℕ → ℕ → Option ℕ → List ℕ → ℕ → Type 0
-AfterTurn h scratch n r scratch′ n′ = record { next = r; scratch = scratch′; aside = n′ } ≡ turned h scratch n
+abbrev pub AfterAdvance : Head → List ℕ → ℕ → Option ℕ → List ℕ → ℕ → Type 0
+AfterAdvance h scratch n r scratch′ n′ = record { next = r; scratch = scratch′; pending = n′ } ≡ advanced h scratch n
 
--- after a walk: the length of the code, and the code in the output
+-- after a walk: the length of the code that the output holds now, or none where it has no room for the code
 abbrev pub AfterWalk : Option Term → List ℕ → Option ℕ → List ℕ → Type 0
 AfterWalk t output None output′ = (scratch : List ℕ) → put-code t output scratch ≡ wiped output scratch
 AfterWalk t output (Some n) output′ = (scratch : List ℕ) → put-code t output scratch ≡ record { answer = Ok n; output = output′; scratch = zeros scratch }

@@ -2,7 +2,7 @@ ghost use mathlib.Core.Path.{_≡_};
 ghost use Prim.Native.Nat.{_≤_, _<_};
 ghost use lib.ListN.{length};
 ghost use Rattle.machine.specs.Writing.{written};
-ghost use Rattle.writer.specs.Walks.{own, AfterPut, AfterTurn, AfterWalk};
+ghost use Rattle.writer.specs.Walks.{own, AfterPut, AfterAdvance, AfterWalk};
 use crate::heads::Head;
 use crate::unfolding::Unfolding;
 use machine::MachineFault;
@@ -38,21 +38,21 @@ fn put(output: &mut [u8], at: usize, head: Head) -> Option<usize>
     }
 }
 
-// Where the writing goes on behind a head: at its first part, or at the right side put aside last.
-fn turn(scratch: &mut [u64], aside: &mut usize, head: Head) -> Option<u64>
-    requires { ⌜ now aside < length (now scratch) ⌝ }
-    ensures { λ r. ⌜ AfterTurn head (now (scratch .entry)) (now (aside .entry)) r (now (scratch .exit)) (now (aside .exit)) ⌝ }
+// Where the writing goes on behind a head: at its first part, or at the latest right side that is pending.
+fn advance(scratch: &mut [u64], pending: &mut usize, head: Head) -> Option<u64>
+    requires { ⌜ now pending < length (now scratch) ⌝ }
+    ensures { λ r. ⌜ AfterAdvance head (now (scratch .entry)) (now (pending .entry)) r (now (scratch .exit)) (now (pending .exit)) ⌝ }
 {
     match head {
         Head::Application { left, right } => {
-            scratch[*aside] = right;
-            *aside += 1;
+            scratch[*pending] = right;
+            *pending += 1;
             Some(left)
         }
         Head::Function { body } => Some(body),
-        _ if *aside > 0 => {
-            *aside -= 1;
-            Some(scratch[*aside])
+        _ if *pending > 0 => {
+            *pending -= 1;
+            Some(scratch[*pending])
         }
         _ => None,
     }
@@ -64,12 +64,12 @@ fn walk<U: Unfolding>(terms: &U, root: u64, output: &mut [u8], scratch: &mut [u6
     ensures { λ r. ⌜ AfterWalk (term (now (terms .entry)) root) (now (output .entry)) r (now (output .exit)) ⌝ }
 {
     let mut end = 0;
-    let mut aside = 0;
+    let mut pending = 0;
     let mut next = Some(root);
     while let Some(position) = next {
         let head = terms.look(position);
         end = put(output, end, head)?;
-        next = turn(scratch, &mut aside, head);
+        next = advance(scratch, &mut pending, head);
     }
     Some(end)
 }
