@@ -3,6 +3,7 @@ use mathlib.Core.Path.{_≡_}
 use Prim.Native.Nat.{ℕ, _≤_, _<_}
 use Rattle.std.specs.declared.option.Option.{Option}
 use Rattle.std.specs.declared.option.Option.the-variants.{Some, None}
+use Rattle.tables.specs.Limits.{node-limit, entry-limit, stack-limit}
 use Rattle.term.specs.Terms.{Term, Closed}
 use Rattle.term.specs.Reduction.{Step, Normal}
 use Rattle.machine.specs.declared.outcomes.Transition.{Transition}
@@ -40,7 +41,7 @@ pub record Meaning : Type 0 where
 
 -- the limits of the tables
 abbrev pub most-places : Places
-most-places = record { stack = 16777216; entries = 1048576; nodes = 16777216 }
+most-places = record { stack = stack-limit; entries = entry-limit; nodes = node-limit }
 
 -- no more places in any table
 pub record Within (p q : Places) : Type 0 where

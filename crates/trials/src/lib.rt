@@ -9,3 +9,5 @@ mod handing;
 mod limits;
 #[cfg(test)]
 mod storing;
+#[cfg(test)]
+mod writing;
