@@ -1,3 +1,4 @@
 pub mod Views
 pub mod Steps
 pub mod Links
+pub mod Storing

@@ -10,6 +10,7 @@ use closure_tables::Entry;
 use tables::Levels;
 
 mod steps;
+mod storing;
 
 // The nodes of the code, in its order.
 #[derive(Drop)]
