@@ -4,3 +4,4 @@ pub mod Chains
 pub mod Pieces
 pub mod Kept
 pub mod Moved
+pub mod Numbers

@@ -2,3 +2,4 @@ pub mod Tables
 pub mod Presented
 pub mod Valid
 pub mod Moves
+pub mod Positions
