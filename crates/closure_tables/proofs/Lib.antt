@@ -5,3 +5,5 @@ pub mod Pieces
 pub mod Kept
 pub mod Moved
 pub mod Numbers
+pub mod Spots
+pub mod Spines

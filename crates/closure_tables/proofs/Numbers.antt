@@ -1,6 +1,5 @@
 -- Numbers of positions. Assumes nothing.
-use mathlib.Core.Path.{_≡_, refl, ap, sym, subst, _∙_}
-use mathlib.Core.Bool.{Bool, true, false, cond, _&&_}
+use mathlib.Core.Path.{_≡_, refl, ap, sym, _∙_}
 use Prim.Native.Nat.{ℕ, zero, suc, _+_, _-_, _*_, _/_, _%_, _^_, _≤_, _<_}
 use native.Mathlib.Omega.{arith}
 use lib.Dec.{ltb}
@@ -9,7 +8,6 @@ use Rattle.std.proofs.shelf.Tests.{cond-true, cond-false, lt-ltb, le-ltb}
 use Rattle.std.specs.declared.option.Option.{Option}
 use Rattle.std.specs.declared.option.Option.the-variants.{Some, None}
 use Rattle.closure_tables.specs.declared.positions.Spot.{Spot}
-use Rattle.closure_tables.specs.declared.positions.Position.{Position}
 use Rattle.closure_tables.specs.declared.positions.Position.the-variants.{Spine, Inside}
 use Rattle.closure_tables.specs.Tables.{Tables}
 use Rattle.closure_tables.specs.Presented.{height}

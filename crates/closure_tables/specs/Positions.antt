@@ -42,8 +42,16 @@ abbrev pub position-of : ℕ → Position
 position-of p = cond (ltb p first-spine) (Inside (spot-of p)) (Spine (p - first-spine))
 
 -- where a closure begins
-abbrev pub whole : Argument → Spot
-whole a = record { node = a .node; depth = 0; chain = a .chain }
+abbrev pub closure-spot : Argument → Spot
+closure-spot a = record { node = a .node; depth = 0; chain = a .chain }
+
+-- another node of the closure, under the same functions
+abbrev pub node-spot : Spot → ℕ → Spot
+node-spot s i = record { node = i; depth = s .depth; chain = s .chain }
+
+-- the body of the function at a spot
+abbrev pub body-spot : Spot → Spot
+body-spot s = record { node = s .node + 1; depth = s .depth + 1; chain = s .chain }
 
 -- no position is further down in a closure
 abbrev pub last-depth : ℕ
