@@ -18,11 +18,12 @@ use Rattle.writer.specs.Heads.{both, headed}
 use Rattle.abstract_machine.specs.Pieces.{Piece, ingredient, plugged}
 use Rattle.abstract_machine.specs.States.{applied-to, unfolded}
 use Rattle.abstract_machine.specs.Soundness.{SoundPiece, SoundStack}
+use Rattle.closure_tables.specs.declared.positions.Position.the-variants as position
 use Rattle.closure_tables.specs.declared.rows.Argument.{Argument}
 use Rattle.closure_tables.specs.Tables.{blank-argument, Tables}
 use Rattle.closure_tables.specs.Presented.{closure-of, presented}
 use Rattle.closure_tables.specs.Valid.{argument-inside, valid}
-use Rattle.closure_tables.specs.Positions.{spine-number, spot-number, closure-spot, entry-values, term-inside, term-on-spine, term-at, root}
+use Rattle.closure_tables.specs.Positions.{spine-number, spot-number, closure-spot, entry-values, position-of, term-inside, term-on-spine, term-of, term-at, root}
 use Rattle.closure_tables.proofs.Each.{each-here}
 use Rattle.closure_tables.proofs.Latest.{length-latest}
 use Rattle.closure_tables.proofs.Kept.{Kept, Inside, kept, argument-is}
@@ -117,7 +118,19 @@ module _ (t : Tables) (k : Kept t) where
       ∙ ap Some more
       ∙ sym (ap (λ x. both term.application x (term-inside t (closure-spot (waiting t i)))) front ∙ ap (both term.application (Some (spine t i))) last)
 
+  -- the last of the i nearest arguments
+  pub taken-inside : (i : ℕ) → 0 < i → i ≤ length (t .stack) → Inside (length (t .cells)) (length (t .entries)) (getD (t .stack) (length (t .stack) - i) blank-argument)
+  taken-inside i pos h =
+      let place : length (t .stack) - 1 - (i - 1) ≡ length (t .stack) - i = omega arith in
+      subst (λ m. Inside (length (t .cells)) (length (t .entries)) (getD (t .stack) m blank-argument)) place (waiting-inside (i - 1) (omega arith))
+
 -- where no term stands as well
+
+pub nothing-stands : (t : Tables) (p : ℕ) → length (t .cells) ≤ 0 → term-at t p ≡ None
+nothing-stands t p none = elim (position-of p) as (λ x. term-of t x ≡ None) [
+  | position.Spine k ↦ spine-empty t k none
+  | position.Inside s ↦ node-past t s (omega arith)
+]
 
 pub spine-hand : (t : Tables) → valid t ≡ true → term-on-spine t 0 ≡ term-inside t (closure-spot (t .hand))
 spine-hand t v = elim (cases-lt 0 (length (t .cells))) [
@@ -137,7 +150,7 @@ spine-looks t i v few pos h =
           let next : suc (i - 1) ≡ i = omega arith in
           let place : length (t .stack) - 1 - (i - 1) ≡ length (t .stack) - i = omega arith in
           let same : waiting t (i - 1) ≡ a = ap (λ m. getD (t .stack) m blank-argument) place in
-          let inside = subst (Inside (length (t .cells)) (length (t .entries))) same (waiting-inside t k (i - 1) (omega arith)) in
+          let inside = taken-inside t k i pos h in
           let number : Numbered (closure-spot a) = record { node = omega (arith, inside .node, k .few); depth = omega arith; chain = omega (arith, inside .chain) } in
           ap (term-on-spine t) (sym next)
           ∙ spine-more t k (i - 1) (omega arith)

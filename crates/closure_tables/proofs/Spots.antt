@@ -6,6 +6,7 @@ use Prim.Native.Nat.{ℕ, suc, _+_, _-_, _^_, _≤_, _<_}
 use native.Mathlib.Omega.{arith}
 use lib.Dec.{ltb}
 use lib.ListN.{length, getD}
+use Rattle.std.proofs.shelf.Lists.{getD-default}
 use Rattle.std.proofs.shelf.Tests.{and-parts, and-from, and-left, and-right, cond-true, cond-false, ltb-true, lt-ltb, le-ltb, le-leb, lt-leb}
 use Rattle.std.specs.Options.{mapped}
 use Rattle.std.specs.declared.option.Option.{Option}
@@ -54,6 +55,10 @@ pub record At (t : Tables) (s : Spot) (x : Cell) : Type 0 where
   pub node : s .node < length (t .cells)
   pub chain : height (s .chain) ≤ length (t .entries)
   pub cell : getD (t .cells) (s .node) blank-cell ≡ x
+
+-- as code reads the cell, with a default of its own
+pub at-read : (t : Tables) (s : Spot) (x d : Cell) → s .node < length (t .cells) → height (s .chain) ≤ length (t .entries) → getD (t .cells) (s .node) d ≡ x → At t s x
+at-read t s x d hn hc is = record { node = hn; chain = hc; cell = getD-default (t .cells) (s .node) blank-cell d hn ∙ is }
 
 -- the argument of entry e, which is inside, has a lower chain than the spot
 pub record Lower (t : Tables) (s : Spot) (e : ℕ) : Type 0 where
