@@ -7,3 +7,6 @@ pub mod Storing
 pub mod Started
 pub mod Moved
 pub mod Agree
+pub mod Numbers
+pub mod Spots
+pub mod Spines

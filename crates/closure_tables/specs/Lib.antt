@@ -4,3 +4,4 @@ pub mod Valid
 pub mod Received
 pub mod Moves
 pub mod Steps
+pub mod Positions
