@@ -255,7 +255,7 @@ step price x h = record { answer = refl; effect = step-effect price (x .capacity
 
 -- what is kept
 
-size-some : (t : Term) → 1 ≤ size t
+pub size-some : (t : Term) → 1 ≤ size t
 size-some t = omega (arith, pieces.weight-some (unfilled t), pieces.weight-unfilled t)
 
 holding-sound : (t : Term) (c u : Places) (o : Option Loaded) → Closed t → Within c most-places → size t ≤ c .nodes → SoundConfiguration (holding t (tables c u o))

@@ -34,9 +34,9 @@ stored-more n l up at node room place level =
     let capacity : up .capacity ≡ l .nodes .capacity = ap (λ u. u .capacity) level in
     let long : k < length rows = omega (arith, n .cells .ok) in
     let cells : take (up .used) (set (joined (node .part) (node .number) rows) at x) ≡ joined (node .part) (node .number) (take k rows) ++ x ∷ []
-        = ap (λ j. take j (set (joined (node .part) (node .number) rows) at x)) used
-          ∙ ap (λ i. take (k + 1) (set (joined (node .part) (node .number) rows) i x)) (took .at-level)
-          ∙ storing.stored-below (node .part) (node .number) k rows x long in
+    = ap (λ j. take j (set (joined (node .part) (node .number) rows) at x)) used
+    ∙ ap (λ i. take (k + 1) (set (joined (node .part) (node .number) rows) i x)) (took .at-level)
+    ∙ storing.stored-below (node .part) (node .number) k rows x long in
     let free : min (up .capacity) (vec-len (n .cells)) - up .used ≡ (min (l .nodes .capacity) (vec-len (n .cells)) - k) - 1 = omega arith in
     let some : 0 < min (l .nodes .capacity) (vec-len (n .cells)) - k = omega (arith, took .free) in
     let there = storing.stored (stored-in n l .code) node some in

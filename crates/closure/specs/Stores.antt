@@ -20,12 +20,12 @@ abbrev pub stored-in : Nodes → Levels → Stored
 stored-in n l = record {
   code = record {
     cells = take (l .nodes .used) (vec-items (n .cells));
-    room = min (l .nodes .capacity) (vec-len (n .cells)) - l .nodes .used
+    room = min (l .nodes .capacity) (vec-len (n .cells)) - l .nodes .used;
   };
   long = vec-len (n .cells);
   capacity = l .nodes .capacity;
   entries = usage (l .entries);
-  stack = usage (l .stack)
+  stack = usage (l .stack);
 }
 
 abbrev pub storing : Stored → Located → Stored

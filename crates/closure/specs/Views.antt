@@ -3,6 +3,9 @@ use mathlib.Core.Path.{_≡_}
 use Prim.Native.Nat.{ℕ}
 use lib.ListN.{getD}
 use Rattle.std.specs.Of.Vec.{vec-items}
+use Rattle.std.specs.declared.option.Option.the-variants.{None}
+use Rattle.tables.specs.Limits as limits
+use Rattle.tables.specs.Limits.{node-limit, entry-limit, stack-limit}
 use Rattle.machine.specs.Meanings.{Places, Meaning}
 use Rattle.abstract_machine.specs.Configurations.{Configuration, explained}
 use Rattle.closure_tables.specs.Tables.{blank-cell, Tables, below}
@@ -30,3 +33,11 @@ configuration m = configured (capacity-of m) (used-of m) (tables-of m)
 
 abbrev pub meaning : Closure → Meaning
 meaning m = explained no-price (configuration m)
+
+-- a new machine over tables of those lengths
+abbrev pub unused : ℕ → ℕ → ℕ → Configuration
+unused nodes entries stack = record {
+  capacity = record { stack = limits.capacity-of stack stack-limit; entries = limits.capacity-of entries entry-limit; nodes = limits.capacity-of nodes node-limit };
+  used = record { stack = 0; entries = 0; nodes = 0 };
+  loaded = None;
+}

@@ -10,5 +10,5 @@ returns-else-application-len c =
     let n = c .args .self .now in
     record {
       cells = sym (ap (λ p. joined p (c .args .number) (vec-items (n .cells))) (c .in-Right .is) ∙ set-out (vec-items (n .cells)) (c .in-Right .application) _ (omega (arith, n .cells .ok)));
-      len = refl
+      len = refl;
     }
