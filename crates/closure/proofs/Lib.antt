@@ -3,3 +3,4 @@ pub mod Steps
 pub mod Links
 pub mod Storing
 pub mod Starts
+pub mod Rules

@@ -9,6 +9,8 @@ use closure_tables::Cell;
 use closure_tables::Entry;
 use tables::Levels;
 
+mod dues;
+mod machine;
 mod starts;
 mod steps;
 mod storing;

@@ -180,3 +180,10 @@ beta-valid t h ok is some = kept-valid (entered t) h (beta-kept t (kept t h ok) 
 
 pub substitution-valid : (t : Tables) (j e : ℕ) → 0 < length (t .cells) → valid t ≡ true → Hand t (cell.Place j) → nth (hand-chain t) j ≡ Some e → valid (fetched e t) ≡ true
 substitution-valid t j e h ok is found = kept-valid (fetched e t) h (substitution-kept t (kept t h ok) j e is found)
+
+-- what a step comes to, by what is due
+pub due-as :
+    (c u : Places) (t : Tables) (d : Due) → 0 < length (t .cells) → due-of (presented t) ≡ d →
+    outcome-due (explained no-price (configured c u t)) ≡ Ok (outcome-of (free-of (configured c u t)) 0 d)
+due-as c u t d h due =
+    ap (λ x. outcome-due (explained no-price x)) (held-is c u t h) ∙ outcome-is c u t d (outcome-of (free-of (held c u t)) 0 d) due refl

@@ -220,6 +220,14 @@ filled-is t k j e is found = place-is t k j is ∙ ap (λ o. filled-by o j) foun
 pub substitution-due : (t : Tables) → Kept t → (j e : ℕ) → Hand t (cell.Place j) → nth (hand-chain t) j ≡ Some e → due-of (presented t) ≡ transition Substitution
 substitution-due t k j e is found = due-is t _ (filled-is t k j e is found)
 
+-- so a substitution is due at every place
+pub place-due : (t : Tables) → Kept t → (j : ℕ) → Hand t (cell.Place j) → due-of (presented t) ≡ transition Substitution
+place-due t k j is =
+    elim (nth (hand-chain t) j) as (λ o. nth (hand-chain t) j ≡ o → due-of (presented t) ≡ transition Substitution) [
+    | None ↦ λ none. absurd (place-filled t k j is none)
+    | Some e ↦ λ found. substitution-due t k j e is found
+    ] refl
+
 pub substitution-next : (t : Tables) → Kept t → (j e : ℕ) → Hand t (cell.Place j) → nth (hand-chain t) j ≡ Some e → presented (fetched e t) ≡ next (presented t)
 substitution-next t k j e is found =
     let g = entry-piece (t .cells) (t .entries) in

@@ -85,7 +85,7 @@ impl Closure {
     }
 
     // The cell in hand.
-    fn cell(&self) -> Cell
+    pub(super) fn cell(&self) -> Cell
         requires { ⌜ 0 < now self .levels .nodes .used ⌝ }
         ensures { λ r. ⌜ Hand (now (self .entry)) r ⌝ }
     {
