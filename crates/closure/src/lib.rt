@@ -2,3 +2,4 @@
 mod state;
 
 pub use state::Closure;
+pub use state::ClosureMachine;
