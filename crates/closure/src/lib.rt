@@ -1,4 +1,5 @@
 // The closure machine: terms are not copied, a closure is a node with a chain of entries.
+mod positions;
 mod state;
 
 pub use state::Closure;
