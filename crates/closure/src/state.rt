@@ -9,6 +9,7 @@ use closure_tables::Cell;
 use closure_tables::Entry;
 use tables::Levels;
 
+mod looks;
 mod steps;
 mod storing;
 
