@@ -10,10 +10,13 @@ use closure_tables::Entry;
 use tables::Levels;
 
 mod dues;
+mod looks;
 mod machine;
 mod starts;
 mod steps;
 mod storing;
+
+pub use machine::ClosureMachine;
 
 // The nodes of the code, in its order.
 #[derive(Drop)]

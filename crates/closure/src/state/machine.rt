@@ -1,5 +1,5 @@
 ghost use mathlib.Core.Path.{_≡_};
-ghost use Rattle.machine.specs.Rules.{AfterStart, start-of, emptied, outcome-due, AfterStep, write-of};
+ghost use Rattle.machine.specs.Rules.{AfterStart, start-of, emptied, outcome-due, AfterStep};
 ghost use Rattle.abstract_machine.specs.Configurations.{vacated, started, stepped};
 ghost use Rattle.closure_tables.specs.Presented.{no-price};
 ghost use Rattle.closure.specs.Views.{configuration, meaning};
@@ -47,6 +47,6 @@ pub impl Machine for Closure as ClosureMachine {
     }
 
     fn write(&self, output: &mut [u8], scratch: &mut [u64]) -> Result<usize, MachineFault> {
-        Err(MachineFault::Empty)
+        self.write_standing(output, scratch)
     }
 }

@@ -60,7 +60,7 @@ impl Closure {
     }
 
     // The entry that fills the place of that index, counted along a chain.
-    fn link(&self, mut chain: Option<u32>, index: u8) -> Option<u32>
+    pub(super) fn link(&self, mut chain: Option<u32>, index: u8) -> Option<u32>
         requires standing { ⌜ 0 < now self .levels .nodes .used ⌝ }
         requires inside { ⌜ height chain ≤ now self .levels .entries .used ⌝ }
         ensures { λ r. ⌜ r ≡ nth (chain-in (tables-of (now (self .entry)) .entries) chain) index ⌝ }

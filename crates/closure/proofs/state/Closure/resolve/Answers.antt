@@ -1,0 +1,29 @@
+use mathlib.Core.Path.{sym, _∙_}
+use native.Mathlib.Omega.{arith}
+use Rattle.closure.proofs.Looks.{leads-here, entry-held, free-shows, Filler, fills}
+use Rattle.closure.proofs.state.Closure.resolve.Needs as need
+
+pub returns-in-rest : need.returns-in-rest
+returns-in-rest c =
+    leads-here (c .args .self .now) (c .args .spot) (c .loop-index .spot) (c .index-cell .result .now) (c .loop-index .inv .1) (c .loop-index .inv .0) (omega arith) (c .index-cell .ensures) (sym (c .in-rest .ensures tt))
+
+pub returns-in-Break-entry : need.returns-in-Break-entry
+returns-in-Break-entry c =
+    rw (c .from-residual .ensures)
+    (c .loop-index .inv .1 ∙ free-shows (c .args .self .now) (c .loop-index .spot) (c .loop-index .inv .0) (c .index-cell .result .now) (c .in-Some .index) (c .index-cell .ensures) (sym (c .in-Some .ensures tt)) (sym (c .in-Break-entry .ensures tt)))
+
+pub index-requires : need.index-requires
+index-requires c κs =
+    let m = c .args .self .now in
+    omega (arith, entry-held m (c .loop-index .spot) (c .loop-index .inv .0) (c .in-Some .index) (c .in-Continue-entry .entry) (sym (c .in-Continue-entry .ensures tt)), m .levels .entries .within, m .«entries_fit»)
+
+next : (c : need.After-closure-spot-spot) → Filler (c .args .self .now) (c .loop-index .spot) (c .closure-spot-spot .result)
+next c =
+    fills (c .args .self .now) (c .loop-index .spot) (c .loop-index .inv .0) (c .index-cell .result .now) (c .in-Some .index) (c .in-Continue-entry .entry) (c .index .result .now) (c .closure-spot-spot .result)
+    (c .index-cell .ensures) (sym (c .in-Some .ensures tt)) (sym (c .in-Continue-entry .ensures tt)) (c .index .ensures) (c .closure-spot-spot .ensures)
+
+pub loop-index-less : need.loop-index-less
+loop-index-less c = next c .lower
+
+pub loop-index-again : need.loop-index-again
+loop-index-again c = (next c .held, c .loop-index .inv .1 ∙ next c .same)
