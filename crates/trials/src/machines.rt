@@ -55,157 +55,152 @@ struct Counts {
     searches: u32,
 }
 
+fn counted(betas: u32, substitutions: u32, searches: u32) -> Counts {
+    Counts {
+        betas,
+        substitutions,
+        searches,
+    }
+}
+
 // Steps until nothing is made, or `most` transitions are.
 fn run<M: Machine>(machine: &mut M, most: u32) -> Result<Counts, MachineFault> {
-    let mut counts = Counts {
-        betas: 0,
-        substitutions: 0,
-        searches: 0,
-    };
+    let mut made = counted(0, 0, 0);
     for _ in 0..most {
         match machine.step()? {
-            Outcome::Made(Transition::Beta) => counts.betas = counts.betas.saturating_add(1),
+            Outcome::Made(Transition::Beta) => made.betas = made.betas.saturating_add(1),
             Outcome::Made(Transition::Substitution) => {
-                counts.substitutions = counts.substitutions.saturating_add(1)
+                made.substitutions = made.substitutions.saturating_add(1)
             }
-            Outcome::Made(Transition::Search) => {
-                counts.searches = counts.searches.saturating_add(1)
-            }
-            Outcome::Done | Outcome::Full(_) => return Ok(counts),
+            Outcome::Made(Transition::Search) => made.searches = made.searches.saturating_add(1),
+            Outcome::Done | Outcome::Full(_) => return Ok(made),
         }
     }
-    Ok(counts)
+    Ok(made)
 }
 
-// A code that ends after those transitions, and what stands then.
-fn ends_as(
-    machine: &mut Closure,
-    code: &[u8],
-    betas: u32,
-    substitutions: u32,
-    searches: u32,
-    standing: &[u8],
-) -> Result<(), Fail> {
-    machine.start(code)?;
-    let counts = run(machine, 1000)?;
-    check_eq(
-        counts,
-        Counts {
-            betas,
-            substitutions,
-            searches,
-        },
-    )?;
-    check_eq(machine.due(), Ok(Outcome::Done))?;
-    stands(machine, standing)
+// A recipe, how often each kind of transition is made of it, and the code that stands then.
+#[derive(Clone, Copy)]
+struct Trial<'a> {
+    code: &'a [u8],
+    counts: Counts,
+    standing: &'a [u8],
 }
 
-fn stands(machine: &Closure, code: &[u8]) -> Result<(), Fail> {
+fn stands<M: Machine>(machine: &M, code: &[u8]) -> Result<(), Fail> {
     let mut output = [0; 32];
     let mut scratch = [0; 32];
     let length = machine.write(&mut output, &mut scratch)?;
-    check_eq(length, code.len())?;
     check(length <= 32)?;
     check(&output[0..length] == code)
 }
 
-#[test]
-fn an_ingredient_is_done_at_once(rt: LibcRuntime) -> Result<(), Fail> {
-    let mut machine = machine_of(rt.alloc(), 1, 0, 0)?;
-    ends_as(&mut machine, &[0x04, 0x00, 0x05], 0, 0, 0, &[0x04, 0x00, 0x05])
-}
-
-#[test]
-fn the_identity_gives_its_argument(rt: LibcRuntime) -> Result<(), Fail> {
-    let mut machine = machine_of(rt.alloc(), 8, 1, 1)?;
-    ends_as(&mut machine, &IDENTITY, 1, 1, 1, &[0x04, 0x00, 0x05])?;
+fn ends<M: Machine>(machine: &mut M, trial: &Trial) -> Result<(), Fail> {
+    machine.start(trial.code)?;
+    check_eq(run(machine, 1000)?, trial.counts)?;
+    check_eq(machine.due(), Ok(Outcome::Done))?;
+    stands(machine, trial.standing)?;
     machine.empty();
-    let twice = [0x01, 0x02, 0x03, 0x00, 0x02, 0x03, 0x00];
-    ends_as(&mut machine, &twice, 1, 1, 1, &[0x02, 0x03, 0x00])
+    Ok(())
+}
+
+fn all_end<M: Machine>(machine: &mut M) -> Result<(), Fail> {
+    let trials = [
+        Trial {
+            code: &[0x04, 0x00, 0x05],
+            counts: counted(0, 0, 0),
+            standing: &[0x04, 0x00, 0x05],
+        },
+        Trial {
+            code: &IDENTITY,
+            counts: counted(1, 1, 1),
+            standing: &[0x04, 0x00, 0x05],
+        },
+        Trial {
+            code: &[0x01, 0x02, 0x03, 0x00, 0x02, 0x03, 0x00],
+            counts: counted(1, 1, 1),
+            standing: &[0x02, 0x03, 0x00],
+        },
+        Trial {
+            code: &[0x01, 0x04, 0x00, 0x01, 0x04, 0x00, 0x02],
+            counts: counted(0, 0, 1),
+            standing: &[0x01, 0x04, 0x00, 0x01, 0x04, 0x00, 0x02],
+        },
+        Trial {
+            code: &NESTED,
+            counts: counted(6, 7, 6),
+            standing: &[0x02, 0x01, 0x03, 0x00, 0x03, 0x00],
+        },
+    ];
+    for trial in &trials {
+        ends(machine, trial)?;
+    }
+    Ok(())
 }
 
 #[test]
-fn an_applied_ingredient_stays(rt: LibcRuntime) -> Result<(), Fail> {
-    let mut machine = machine_of(rt.alloc(), 3, 0, 1)?;
-    let code = [0x01, 0x04, 0x00, 0x01, 0x04, 0x00, 0x02];
-    ends_as(&mut machine, &code, 0, 0, 1, &code)
+fn recipes_end_as_known(rt: LibcRuntime) -> Result<(), Fail> {
+    all_end(&mut machine_of(rt.alloc(), 18, 6, 8)?)
 }
 
-#[test]
-fn uses_of_an_argument_are_told_apart(rt: LibcRuntime) -> Result<(), Fail> {
-    let mut machine = machine_of(rt.alloc(), 18, 8, 8)?;
-    ends_as(&mut machine, &NESTED, 6, 7, 6, &[0x02, 0x01, 0x03, 0x00, 0x03, 0x00])
+fn comes_round<M: Machine>(machine: &mut M) -> Result<(), Fail> {
+    machine.start(&ENDLESS)?;
+    check_eq(run(machine, 13)?, counted(3, 6, 4))?;
+    stands(machine, &ENDLESS)
 }
 
 #[test]
 fn what_has_no_end_comes_round(rt: LibcRuntime) -> Result<(), Fail> {
-    let mut machine = machine_of(rt.alloc(), 9, 4, 2)?;
-    machine.start(&ENDLESS)?;
-    let counts = run(&mut machine, 13)?;
-    check_eq(
-        counts,
-        Counts {
-            betas: 3,
-            substitutions: 6,
-            searches: 4,
-        },
-    )?;
-    stands(&machine, &ENDLESS)
+    comes_round(&mut machine_of(rt.alloc(), 9, 4, 2)?)
+}
+
+fn fills<M: Machine>(machine: &mut M, code: &[u8], made: Counts, table: Table) -> Result<(), Fail> {
+    machine.start(code)?;
+    check_eq(run(machine, 1000)?, made)?;
+    check_eq(machine.due(), Ok(Outcome::Full(table)))?;
+    check_eq(machine.step(), Ok(Outcome::Full(table)))
 }
 
 #[test]
 fn entries_run_out(rt: LibcRuntime) -> Result<(), Fail> {
-    let mut machine = machine_of(rt.alloc(), 9, 2, 2)?;
-    machine.start(&ENDLESS)?;
-    let counts = run(&mut machine, 1000)?;
-    check_eq(
-        counts,
-        Counts {
-            betas: 2,
-            substitutions: 3,
-            searches: 3,
-        },
-    )?;
-    check_eq(machine.due(), Ok(Outcome::Full(Table::Entries)))?;
-    check_eq(machine.step(), Ok(Outcome::Full(Table::Entries)))
+    fills(&mut machine_of(rt.alloc(), 9, 2, 2)?, &ENDLESS, counted(2, 3, 3), Table::Entries)
 }
 
 #[test]
 fn the_stack_runs_out(rt: LibcRuntime) -> Result<(), Fail> {
-    let mut machine = machine_of(rt.alloc(), 8, 1, 0)?;
-    machine.start(&IDENTITY)?;
-    check_eq(machine.due(), Ok(Outcome::Full(Table::Stack)))?;
-    check_eq(machine.step(), Ok(Outcome::Full(Table::Stack)))?;
-    stands(&machine, &IDENTITY)
+    fills(&mut machine_of(rt.alloc(), 8, 1, 0)?, &IDENTITY, counted(0, 0, 0), Table::Stack)
 }
 
-#[test]
-fn a_write_fits_or_leaves_nothing(rt: LibcRuntime) -> Result<(), Fail> {
-    let mut machine = machine_of(rt.alloc(), 1, 0, 0)?;
+fn writes<M: Machine>(machine: &mut M) -> Result<(), Fail> {
+    let mut short = [9; 2];
     let mut output = [9; 3];
     let mut scratch = [9; 3];
-    check_eq(machine.write(&mut output, &mut scratch), Err(MachineFault::Empty))?;
-    check_eq(output, [9; 3])?;
+    check_eq(machine.write(&mut short, &mut scratch), Err(MachineFault::Empty))?;
+    check_eq(short, [9; 2])?;
     machine.start(&[0x04, 0x00, 0x05])?;
-    check_eq(machine.write(&mut output, &mut scratch[0..2]), Err(MachineFault::ShortScratch))?;
-    check_eq(output, [9; 3])?;
-    check_eq(machine.write(&mut output[0..2], &mut scratch), Err(MachineFault::ShortOutput))?;
-    check_eq(output, [0, 0, 9])?;
+    check_eq(machine.write(&mut short, &mut scratch), Err(MachineFault::ShortOutput))?;
+    check_eq(short, [0; 2])?;
     check_eq(scratch, [0; 3])?;
     check_eq(machine.write(&mut output, &mut scratch), Ok(3))?;
     check_eq(output, [0x04, 0x00, 0x05])
 }
 
 #[test]
-fn starts_are_refused_in_order(rt: LibcRuntime) -> Result<(), Fail> {
-    let mut machine = machine_of(rt.alloc(), 3, 1, 1)?;
+fn a_write_fits_or_leaves_nothing(rt: LibcRuntime) -> Result<(), Fail> {
+    writes(&mut machine_of(rt.alloc(), 1, 0, 0)?)
+}
+
+fn refuses_in_order<M: Machine>(machine: &mut M) -> Result<(), Fail> {
     check_eq(machine.step(), Err(MachineFault::Empty))?;
     let longer = [0x01, 0x02, 0x03, 0x00, 0x04, 0x00, 0x05, 0x00];
     check_eq(machine.start(&longer), Err(MachineFault::Code(Fault::Leftover { at: 7 })))?;
     check_eq(machine.start(&IDENTITY), Err(MachineFault::TooLarge))?;
     check_eq(machine.due(), Err(MachineFault::Empty))?;
     check_eq(machine.start(&[0x02, 0x03, 0x00]), Ok(2))?;
-    check_eq(machine.start(&[]), Err(MachineFault::Standing))?;
-    machine.empty();
-    check_eq(machine.start(&[]), Err(MachineFault::Code(Fault::Missing { at: 0 })))
+    check_eq(machine.start(&[]), Err(MachineFault::Standing))
+}
+
+#[test]
+fn starts_are_refused_in_order(rt: LibcRuntime) -> Result<(), Fail> {
+    refuses_in_order(&mut machine_of(rt.alloc(), 3, 1, 1)?)
 }
