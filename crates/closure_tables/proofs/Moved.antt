@@ -224,8 +224,8 @@ substitution-due t k j e is found = due-is t _ (filled-is t k j e is found)
 pub place-due : (t : Tables) → Kept t → (j : ℕ) → Hand t (cell.Place j) → due-of (presented t) ≡ transition Substitution
 place-due t k j is =
     elim (nth (hand-chain t) j) as (λ o. nth (hand-chain t) j ≡ o → due-of (presented t) ≡ transition Substitution) [
-    | None ↦ λ none. absurd (place-filled t k j is none)
-    | Some e ↦ λ found. substitution-due t k j e is found
+      | None ↦ λ none. absurd (place-filled t k j is none)
+      | Some e ↦ λ found. substitution-due t k j e is found
     ] refl
 
 pub substitution-next : (t : Tables) → Kept t → (j e : ℕ) → Hand t (cell.Place j) → nth (hand-chain t) j ≡ Some e → presented (fetched e t) ≡ next (presented t)

@@ -1,4 +1,12 @@
 // Takes a recipe of a real bakery through everything there is, and prints what happens.
+use closure::Closure;
+use closure::ClosureMachine;
+use closure_tables::Argument;
+use closure_tables::Cell;
+use closure_tables::Entry;
+use machine::Machine;
+use machine::MachineFault;
+use machine::Outcome;
 use node::Fault;
 use reading::NoReceiver;
 use reading::count;
@@ -105,7 +113,72 @@ fn print_damaged(rt: &LibcRuntime) -> io::Result<()> {
     print_verdict(rt, &longer)
 }
 
+fn print_machine_refusal(rt: &LibcRuntime, fault: MachineFault) -> io::Result<()> {
+    let number = fault.number();
+    let name = fault.name();
+    println!(rt, "  refused with {number}, {name}")
+}
+
+// Answers whether a transition was made.
+fn print_step<M: Machine>(rt: &LibcRuntime, machine: &mut M) -> io::Result<bool> {
+    match machine.step() {
+        Ok(Outcome::Made(transition)) => {
+            let name = transition.name();
+            println!(rt, "  {name}")?;
+            return Ok(true);
+        }
+        Ok(Outcome::Done) => println!(rt, "  done")?,
+        Ok(Outcome::Full(table)) => {
+            let name = table.name();
+            println!(rt, "  full: {name}")?;
+        }
+        Err(fault) => print_machine_refusal(rt, fault)?,
+    }
+    Ok(false)
+}
+
+fn print_steps<M: Machine>(rt: &LibcRuntime, machine: &mut M) -> io::Result<()> {
+    for _ in 0..100 {
+        if !print_step(rt, machine)? {
+            return Ok(());
+        }
+    }
+    Ok(())
+}
+
+fn print_standing<M: Machine>(rt: &LibcRuntime, machine: &M) -> io::Result<()> {
+    let mut output = [0; 64];
+    let mut scratch = [0; 64];
+    match machine.write(&mut output, &mut scratch) {
+        Ok(length) if length <= 64 => {
+            print_code(rt, &output[0..length])?;
+            print_counts(rt, &output[0..length])
+        }
+        Ok(_) => Ok(()),
+        Err(fault) => print_machine_refusal(rt, fault),
+    }
+}
+
+fn print_reduction<M: Machine>(rt: &LibcRuntime, machine: &mut M) -> io::Result<()> {
+    let kind = M::kind_number();
+    println!(rt, "The house dough in a machine of kind {kind}")?;
+    match machine.start(&HOUSE_DOUGH) {
+        Ok(size) => println!(rt, "  started with {size} nodes")?,
+        Err(fault) => print_machine_refusal(rt, fault)?,
+    }
+    print_steps(rt, machine)?;
+    println!(rt, "What stands then")?;
+    print_standing(rt, machine)
+}
+
 fn main(rt: LibcRuntime) -> io::Result<()> {
     print_recipe(&rt)?;
-    print_damaged(&rt)
+    print_damaged(&rt)?;
+    let heap = rt.alloc();
+    let mut machine = Closure::new(
+        [Cell::BLANK; 64].to_vec(heap)?,
+        [Entry::BLANK; 16].to_vec(heap)?,
+        [Argument::BLANK; 16].to_vec(heap)?,
+    );
+    print_reduction(&rt, &mut machine)
 }

@@ -25,13 +25,48 @@ const IDENTITY: [u8; 7] = [0x01, 0x02, 0x03, 0x00, 0x04, 0x00, 0x05];
 
 // a function that applies its argument to itself, applied to itself: it has no end
 const ENDLESS: [u8; 13] = [
-    0x01, 0x02, 0x01, 0x03, 0x00, 0x03, 0x00, 0x02, 0x01, 0x03, 0x00, 0x03, 0x00,
+    0x01,
+    0x02,
+    0x01,
+    0x03,
+    0x00,
+    0x03,
+    0x00,
+    0x02,
+    0x01,
+    0x03,
+    0x00,
+    0x03,
+    0x00,
 ];
 
 // functions of one name inside one another, in which a machine that does not tell two uses of an argument apart has no end
 const NESTED: [u8; 25] = [
-    0x01, 0x02, 0x01, 0x01, 0x01, 0x03, 0x00, 0x03, 0x00, 0x02, 0x03, 0x00, 0x02, 0x01, 0x03, 0x00,
-    0x03, 0x00, 0x02, 0x02, 0x01, 0x03, 0x01, 0x03, 0x00,
+    0x01,
+    0x02,
+    0x01,
+    0x01,
+    0x01,
+    0x03,
+    0x00,
+    0x03,
+    0x00,
+    0x02,
+    0x03,
+    0x00,
+    0x02,
+    0x01,
+    0x03,
+    0x00,
+    0x03,
+    0x00,
+    0x02,
+    0x02,
+    0x01,
+    0x03,
+    0x01,
+    0x03,
+    0x00,
 ];
 
 fn machine_of(
@@ -163,22 +198,38 @@ fn fills<M: Machine>(machine: &mut M, code: &[u8], made: Counts, table: Table) -
 
 #[test]
 fn entries_run_out(rt: LibcRuntime) -> Result<(), Fail> {
-    fills(&mut machine_of(rt.alloc(), 9, 2, 2)?, &ENDLESS, counted(2, 3, 3), Table::Entries)
+    fills(
+        &mut machine_of(rt.alloc(), 9, 2, 2)?,
+        &ENDLESS,
+        counted(2, 3, 3),
+        Table::Entries,
+    )
 }
 
 #[test]
 fn the_stack_runs_out(rt: LibcRuntime) -> Result<(), Fail> {
-    fills(&mut machine_of(rt.alloc(), 8, 1, 0)?, &IDENTITY, counted(0, 0, 0), Table::Stack)
+    fills(
+        &mut machine_of(rt.alloc(), 8, 1, 0)?,
+        &IDENTITY,
+        counted(0, 0, 0),
+        Table::Stack,
+    )
 }
 
 fn writes<M: Machine>(machine: &mut M) -> Result<(), Fail> {
     let mut short = [9; 2];
     let mut output = [9; 3];
     let mut scratch = [9; 3];
-    check_eq(machine.write(&mut short, &mut scratch), Err(MachineFault::Empty))?;
+    check_eq(
+        machine.write(&mut short, &mut scratch),
+        Err(MachineFault::Empty),
+    )?;
     check_eq(short, [9; 2])?;
     machine.start(&[0x04, 0x00, 0x05])?;
-    check_eq(machine.write(&mut short, &mut scratch), Err(MachineFault::ShortOutput))?;
+    check_eq(
+        machine.write(&mut short, &mut scratch),
+        Err(MachineFault::ShortOutput),
+    )?;
     check_eq(short, [0; 2])?;
     check_eq(scratch, [0; 3])?;
     check_eq(machine.write(&mut output, &mut scratch), Ok(3))?;
@@ -193,7 +244,10 @@ fn a_write_fits_or_leaves_nothing(rt: LibcRuntime) -> Result<(), Fail> {
 fn refuses_in_order<M: Machine>(machine: &mut M) -> Result<(), Fail> {
     check_eq(machine.step(), Err(MachineFault::Empty))?;
     let longer = [0x01, 0x02, 0x03, 0x00, 0x04, 0x00, 0x05, 0x00];
-    check_eq(machine.start(&longer), Err(MachineFault::Code(Fault::Leftover { at: 7 })))?;
+    check_eq(
+        machine.start(&longer),
+        Err(MachineFault::Code(Fault::Leftover { at: 7 })),
+    )?;
     check_eq(machine.start(&IDENTITY), Err(MachineFault::TooLarge))?;
     check_eq(machine.due(), Err(MachineFault::Empty))?;
     check_eq(machine.start(&[0x02, 0x03, 0x00]), Ok(2))?;

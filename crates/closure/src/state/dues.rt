@@ -32,19 +32,21 @@ impl Closure {
         if self.levels.nodes.used() == 0 {
             return Err(MachineFault::Empty);
         }
-        Ok(match self.cell() {
-            Cell::Application { right: _ } => {
-                afford(&self.levels.stack, Transition::Search, Table::Stack)
-            }
-            Cell::Function => {
-                if self.levels.stack.used() == 0 {
-                    Outcome::Done
-                } else {
-                    afford(&self.levels.entries, Transition::Beta, Table::Entries)
+        Ok(
+            match self.cell() {
+                Cell::Application { right: _ } => {
+                    afford(&self.levels.stack, Transition::Search, Table::Stack)
                 }
-            }
-            Cell::Place(_) => Outcome::Made(Transition::Substitution),
-            Cell::Ingredient(_) => Outcome::Done,
-        })
+                Cell::Function => {
+                    if self.levels.stack.used() == 0 {
+                        Outcome::Done
+                    } else {
+                        afford(&self.levels.entries, Transition::Beta, Table::Entries)
+                    }
+                }
+                Cell::Place(_) => Outcome::Made(Transition::Substitution),
+                Cell::Ingredient(_) => Outcome::Done,
+            },
+        )
     }
 }
