@@ -173,13 +173,12 @@ argument-read m i a low read =
     let inside : i < length rows = omega (arith, m .levels .stack .within, m .«stack_fit», m .stack .ok) in
     read ∙ getD-default rows i a blank-argument inside ∙ sym (getD-take (m .levels .stack .used) rows i blank-argument low)
 
-module _
-    (m : Closure) (k at : ℕ) (a : Argument) (some : 0 < k) (few : k ≤ m .levels .stack .used) (place : at ≡ m .levels .stack .used - k) (read : a ≡ getD (vec-items (m .stack)) at a) where
+module _ (m : Closure) (k : ℕ) (a : Argument) (some : 0 < k) (few : k ≤ m .levels .stack .used) (read : a ≡ getD (vec-items (m .stack)) (m .levels .stack .used - k) a) where
   -- the last of the k nearest arguments
   last-is : a ≡ getD (tables-of m .stack) (length (tables-of m .stack) - k) blank-argument
   last-is =
-      let same : at ≡ length (tables-of m .stack) - k = omega (arith, stack-long m) in
-      argument-read m at a (omega arith) read ∙ ap (λ i. getD (tables-of m .stack) i blank-argument) same
+      argument-read m (m .levels .stack .used - k) a (omega arith) read
+      ∙ ap (λ n. getD (tables-of m .stack) (n - k) blank-argument) (sym (stack-long m))
 
   pub last-chain : 0 < m .levels .nodes .used → height (a .chain) < 2 ^ 31
   last-chain stands =
