@@ -4,12 +4,12 @@ use mathlib.Core.Bool.{true, false, cond}
 use mathlib.Core.List.{List}
 use Prim.Native.Nat.{ℕ, _-_, _^_, _≤_, _<_}
 use native.Mathlib.Omega.{arith}
-use lib.Dec.{ltb, leb, eqb}
+use lib.Dec.{ltb, eqb}
 use lib.ListN.{length, getD}
 use lib.Seq.{getD-take}
 use borrow.Author.Tests.{eqb-false}
 use Rattle.std.proofs.shelf.Lists.{getD-default}
-use Rattle.std.proofs.shelf.Tests.{and-parts, ltb-true, ltb-false, leb-true}
+use Rattle.std.proofs.shelf.Tests.{ltb-true, ltb-false}
 use Rattle.std.specs.Of.Vec.{vec-items}
 use Rattle.std.specs.Finite.{nth}
 use Rattle.std.specs.declared.option.Option.{Option}
@@ -37,7 +37,7 @@ use Rattle.closure_tables.proofs.Agree.{loaded-some}
 use Rattle.closure.specs.declared.state.Closure.{Closure}
 use Rattle.closure.specs.Views.{tables-of, capacity-of, used-of, meaning}
 use Rattle.closure.specs.Heads.{link-index, cell-head}
-use Rattle.closure.specs.Looks.{standing-at, root-of, holds-spot, Shows, ShowsOnSpine, LeadsTo}
+use Rattle.closure.specs.Looks.{standing-at, root-of, Shows, ShowsOnSpine, LeadsTo}
 use Rattle.closure.proofs.Views.{cells-long, entries-long, stack-long}
 use Rattle.closure.proofs.Steps.{standing}
 use Rattle.closure.proofs.Links.{entry-read}
@@ -46,11 +46,6 @@ use Rattle.closure.proofs.Links.{entry-read}
 pub record Held (m : Closure) (s : Spot) : Type 0 where
   pub node : s .node < m .levels .nodes .used
   pub chain : height (s .chain) ≤ m .levels .entries .used
-
-pub held-is : (m : Closure) (s : Spot) → holds-spot m s ≡ true → Held m s
-held-is m s e =
-    let p = and-parts (ltb (s .node) (m .levels .nodes .used)) (leb (height (s .chain)) (m .levels .entries .used)) e in
-    record { node = ltb-true _ _ (p .0); chain = leb-true _ _ (p .1) }
 
 few-entries : (m : Closure) → length (tables-of m .entries) < 2 ^ 31
 few-entries m = omega (arith, entries-long m, m .levels .entries .within, m .levels .few)
@@ -173,13 +168,12 @@ argument-read m i a low read =
     let inside : i < length rows = omega (arith, m .levels .stack .within, m .«stack_fit», m .stack .ok) in
     read ∙ getD-default rows i a blank-argument inside ∙ sym (getD-take (m .levels .stack .used) rows i blank-argument low)
 
-module _
-    (m : Closure) (k at : ℕ) (a : Argument) (some : 0 < k) (few : k ≤ m .levels .stack .used) (place : at ≡ m .levels .stack .used - k) (read : a ≡ getD (vec-items (m .stack)) at a) where
+module _ (m : Closure) (k : ℕ) (a : Argument) (some : 0 < k) (few : k ≤ m .levels .stack .used) (read : a ≡ getD (vec-items (m .stack)) (m .levels .stack .used - k) a) where
   -- the last of the k nearest arguments
   last-is : a ≡ getD (tables-of m .stack) (length (tables-of m .stack) - k) blank-argument
   last-is =
-      let same : at ≡ length (tables-of m .stack) - k = omega (arith, stack-long m) in
-      argument-read m at a (omega arith) read ∙ ap (λ i. getD (tables-of m .stack) i blank-argument) same
+      argument-read m (m .levels .stack .used - k) a (omega arith) read
+      ∙ ap (λ n. getD (tables-of m .stack) (n - k) blank-argument) (sym (stack-long m))
 
   pub last-chain : 0 < m .levels .nodes .used → height (a .chain) < 2 ^ 31
   last-chain stands =

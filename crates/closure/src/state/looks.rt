@@ -1,5 +1,8 @@
 ghost use mathlib.Core.Path.{_≡_};
 ghost use mathlib.Core.Bool.{true};
+ghost use Prim.Native.Nat.{_-_, _<_, _≤_};
+ghost use lib.ListN.{getD};
+ghost use Rattle.std.specs.Of.Vec.{vec-items};
 ghost use Rattle.machine.specs.Rules.{write-of};
 ghost use Rattle.closure.specs.Views.{meaning};
 ghost use Rattle.closure.specs.Looks.{standing-at, holds-spot, root-of, Shows, ShowsOnSpine, Resolved};
@@ -11,6 +14,7 @@ use crate::positions::height;
 use crate::positions::position_of;
 use crate::positions::spine_number;
 use crate::state::Closure;
+use closure_tables::Argument;
 use closure_tables::Cell;
 use closure_tables::Position;
 use closure_tables::Spot;
@@ -56,18 +60,26 @@ impl Closure {
         }
     }
 
+    // The last of so many stacked arguments, the nearest first.
+    fn last_of(&self, taken: usize) -> Argument
+        requires some { ⌜ 0 < taken ⌝ }
+        requires stacked { ⌜ taken ≤ now self .levels .stack .used ⌝ }
+        ensures { λ r. ⌜ r ≡ getD (vec-items (now (self .entry) .stack)) (now (self .entry) .levels .stack .used - taken) r ⌝ }
+    {
+        self.stack[self.levels.stack.used() - taken]
+    }
+
     // The head of the closure in hand applied to so many of the stacked arguments.
     fn look_on_spine(&self, taken: usize) -> Head
         ensures { λ r. ⌜ ShowsOnSpine (now (self .entry)) taken r ⌝ }
     {
-        let stacked = self.levels.stack.used();
-        if self.levels.nodes.used() == 0 || taken > stacked {
+        if self.levels.nodes.used() == 0 || taken > self.levels.stack.used() {
             return Head::Nothing;
         }
         if taken == 0 {
             return self.look_inside(closure_spot(self.hand));
         }
-        applied_head(taken, self.stack[stacked - taken])
+        applied_head(taken, self.last_of(taken))
     }
 
     // Where the whole of the standing term is found, if one stands.

@@ -7,12 +7,14 @@ returns-then-taken-eq0 c =
     hand-shows (c .args .self .now) (c .args .taken) (c .closure-spot .result) (c .look-inside .result) (omega arith) (c .closure-spot .ensures) (c .look-inside .ensures)
 
 pub applied-head-requires : need.applied-head-requires
-applied-head-requires c κs = record {
-  some = omega arith;
-  few = omega (arith, c .args .self .now .levels .stack .within, c .args .self .now .levels .stack .limited);
-  chain = last-chain (c .args .self .now) (c .args .taken) _ (c .index .result .now) (omega arith) (omega arith) (omega arith) (c .index .ensures) (omega arith);
-}
+applied-head-requires c κs =
+    let m = c .args .self .now in
+    record {
+      some = omega arith;
+      few = omega (arith, m .levels .stack .within, m .levels .stack .limited);
+      chain = last-chain m (c .args .taken) (c .last-of .result) (omega arith) (omega arith) (c .last-of .ensures) (omega arith);
+    }
 
 pub returns : need.returns
 returns c =
-    last-shows (c .args .self .now) (c .args .taken) _ (c .index .result .now) (omega arith) (omega arith) (omega arith) (c .index .ensures) (c .applied-head .result) (c .applied-head .ensures)
+    last-shows (c .args .self .now) (c .args .taken) (c .last-of .result) (omega arith) (omega arith) (c .last-of .ensures) (c .applied-head .result) (c .applied-head .ensures)
