@@ -101,7 +101,7 @@ numbered-behind d x xs j h =
     let apart : j ≡ length xs → ⊥ = omega arith in
     cond-false (eqb j (length xs)) x (numbered d xs j) (ne-eqb j (length xs) apart)
 
--- a further entry changes no piece that does not name it
+-- entries that come later leave a piece alone
 pub plugged-weaker : (u : Term) (ts : List Term) (p : Piece) → reach p ≤ length ts → plugged (u ∷ ts) p ≡ plugged ts p
 plugged-weaker u ts (place k) h = refl
 plugged-weaker u ts (ingredient i) h = refl
@@ -112,7 +112,7 @@ plugged-weaker u ts (application p q) h =
     cc
 plugged-weaker u ts (filled j) h = numbered-behind (term.ingredient 0) u ts j h
 
--- plugging an opened body is filling the plugged body
+-- opening, then plugging, is plugging, then filling
 pub plugged-opened :
     (i : ℕ) (u : Term) (ts : List Term) (p : Piece) →
     AllClosed ts →

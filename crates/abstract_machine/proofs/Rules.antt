@@ -21,7 +21,7 @@ use Rattle.machine.specs.declared.outcomes.Table.{Table}
 use Rattle.machine.specs.declared.outcomes.Table.the-variants.{Stack, Entries, Nodes}
 use Rattle.machine.specs.declared.outcomes.Outcome.the-variants.{Made, Done, Full}
 use Rattle.machine.specs.Meanings.{Places, Due, transition, done, Standing, SoundStanding, Sound, Within, most-places}
-use Rattle.machine.specs.Rules.{sized, start-of, Stands, StartEffect, AfterStart, emptied, outcome-of, outcome-due, Searched, Substituted, Bound, Moved, StepEffect, AfterStep}
+use Rattle.machine.specs.Rules.{sized, start-of, Stands, StartEffect, AfterStart, emptied, outcome-of, outcome-due, Searched, Substituted, Contracted, Moved, StepEffect, AfterStep}
 use Rattle.abstract_machine.specs.Pieces.{Piece, place, ingredient, function, application, filled, unfilled, weight}
 use Rattle.abstract_machine.specs.States.{State, initial, due-of, due-at, next, unfolded}
 use Rattle.abstract_machine.specs.Soundness.{SoundState}

@@ -69,7 +69,7 @@ holding t x = record {
   loaded = Some (record { size = size t; state = initial t });
 }
 
--- after a start that was answered so, of a code with that verdict
+-- after a start that was answered so, of a code with that verdict; a refused code is never answered with a size
 abbrev pub after-start : Result ℕ MachineFault → Verdict → Configuration → Configuration
 after-start (Ok s) (accepted t) x = holding t x
 after-start (Ok s) (refused f) x = x
@@ -91,6 +91,7 @@ advanced price k x l = record {
   loaded = Some (record { size = l .size; state = next (l .state) });
 }
 
+-- where nothing stands no transition is made, so that case does not come
 abbrev pub moved : (State → ℕ) → Transition → Configuration → Option Loaded → Configuration
 moved price k x None = x
 moved price k x (Some l) = advanced price k x l

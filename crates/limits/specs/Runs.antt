@@ -11,7 +11,7 @@ use Rattle.machine.specs.Meanings.{Meaning, Sound}
 use Rattle.machine.specs.Rules.{AfterStart, AfterStep}
 
 -- A machine took the code of a term, and made these transitions since, the newest first; it means this now.
--- Each constructor holds what the contracts of `start` and `step` and the law of a machine say, and nothing else.
+-- Each constructor holds what follows from the contracts of `start` and `step` and from the law of a machine.
 pub data Run : Term → List Transition → Meaning → Type 0 where
   started : {t : Term} {bs : List ℕ} {s : ℕ} {m n : Meaning} → verdict bs ≡ accepted t → AfterStart bs m (Ok s) n → Sound n → Run t [] n
   stepped : {t : Term} {ks : List Transition} {k : Transition} {m n : Meaning} → Run t ks m → AfterStep m (Ok (Made k)) n → Sound n → Run t (k ∷ ks) n

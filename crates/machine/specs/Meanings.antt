@@ -31,7 +31,7 @@ pub record Standing : Type 0 where
   pub weight : ℕ
   pub reach : ℕ
   pub due : Due
-  -- the nodes that a substitution takes if it is due
+  -- the nodes that a substitution takes if it is due; at most `loaded` also where none is
   pub price : ℕ
 
 pub record Meaning : Type 0 where

@@ -7,7 +7,7 @@ use Rattle.machine.specs.declared.outcomes.Transition.the-variants.{Beta, Subs
 use Rattle.machine.specs.declared.outcomes.Table.{Table}
 use Rattle.machine.specs.declared.outcomes.Table.the-variants.{Stack, Entries, Nodes}
 
--- in the order in which a report lists their counts
+-- in the order in which an evaluator will list their counts
 abbrev pub transition-number : Transition → ℕ
 transition-number Beta = 1
 transition-number Substitution = 2
@@ -18,7 +18,7 @@ transition-name Beta = codes "beta"
 transition-name Substitution = codes "substitution"
 transition-name Search = codes "search"
 
--- the number by which a report says that a table is full
+-- the number by which an evaluator will say that a table is full
 abbrev pub table-number : Table → ℕ
 table-number Stack = 2
 table-number Entries = 3

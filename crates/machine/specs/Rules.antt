@@ -66,7 +66,7 @@ outcome-of free price done = Done
 abbrev pub outcome-due : Meaning → Result Outcome MachineFault
 outcome-due m = elim (m .standing) [ Some s ↦ Ok (outcome-of (m .free) (s .price) (s .due)) | None ↦ Err refusal.Empty ]
 
--- what each kind of transition does, from s with the places f free to t with g
+-- what each kind of transition does, from s with the places f free to t with g; a β transition contracts the head redex
 pub record Searched (f : Places) (s : Standing) (g : Places) (t : Standing) : Type 0 where
   pub term : t .term ≡ s .term
   pub betas : t .betas ≡ s .betas
@@ -85,7 +85,7 @@ pub record Substituted (f : Places) (s : Standing) (g : Places) (t : Standing) :
   pub entries : g .entries ≡ f .entries
   pub nodes : f .nodes ≡ g .nodes + s .price
 
-pub record Bound (f : Places) (s : Standing) (g : Places) (t : Standing) : Type 0 where
+pub record Contracted (f : Places) (s : Standing) (g : Places) (t : Standing) : Type 0 where
   pub term : Step (s .term) (t .term)
   pub betas : t .betas ≡ suc (s .betas)
   pub weight : t .weight < s .weight
@@ -95,7 +95,7 @@ pub record Bound (f : Places) (s : Standing) (g : Places) (t : Standing) : Type 
   pub nodes : g .nodes ≡ f .nodes
 
 abbrev pub Rule : Transition → Places → Standing → Places → Standing → Type 0
-Rule Beta = Bound
+Rule Beta = Contracted
 Rule Substitution = Substituted
 Rule Search = Searched
 

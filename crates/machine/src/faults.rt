@@ -18,9 +18,9 @@ pub enum MachineFault {
     Standing,
     // no term stands
     Empty,
-    // the scratch has fewer places than the output has bytes
+    // not one scratch place for each byte of the output
     ShortScratch,
-    // the code is longer than the output
+    // the output has no room for the whole code
     ShortOutput,
 }
 
