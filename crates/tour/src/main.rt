@@ -21,38 +21,42 @@ const PANTRY: [(&str, u16); 5] = [
     ("butter", 5),
 ];
 
-// A dough that takes butter in two places, applied to the butter.
-const HOUSE_DOUGH: [u8; 30] = [
+// A step that works one thing into another twice, applied to butter and to a plain dough.
+const HOUSE_DOUGH: [u8; 34] = [
     0x01,
+    0x01,
+    0x02,
     0x02,
     0x01,
     0x01,
-    0x01,
-    0x01,
-    0x01,
-    0x01,
-    0x04,
-    0x00,
-    0x01,
-    0x04,
-    0x00,
-    0x01,
-    0x04,
-    0x00,
-    0x02,
-    0x04,
-    0x00,
-    0x03,
-    0x04,
-    0x00,
-    0x04,
     0x03,
     0x00,
     0x03,
-    0x00,
+    0x01,
+    0x03,
+    0x01,
     0x04,
     0x00,
     0x05,
+    0x01,
+    0x01,
+    0x01,
+    0x01,
+    0x04,
+    0x00,
+    0x01,
+    0x04,
+    0x00,
+    0x01,
+    0x04,
+    0x00,
+    0x02,
+    0x04,
+    0x00,
+    0x03,
+    0x04,
+    0x00,
+    0x04,
 ];
 
 fn print_code(rt: &LibcRuntime, code: &[u8]) -> io::Result<()> {
@@ -92,7 +96,7 @@ fn print_counts(rt: &LibcRuntime, code: &[u8]) -> io::Result<()> {
 }
 
 fn print_recipe(rt: &LibcRuntime) -> io::Result<()> {
-    println!(rt, "The house dough, with butter for its place")?;
+    println!(rt, "The house dough: butter, worked into a plain dough twice")?;
     print_code(rt, &HOUSE_DOUGH)?;
     print_verdict(rt, &HOUSE_DOUGH)?;
     print_counts(rt, &HOUSE_DOUGH)
@@ -100,16 +104,16 @@ fn print_recipe(rt: &LibcRuntime) -> io::Result<()> {
 
 fn print_damaged(rt: &LibcRuntime) -> io::Result<()> {
     println!(rt, "The same, cut short")?;
-    print_verdict(rt, &HOUSE_DOUGH[0..29])?;
+    print_verdict(rt, &HOUSE_DOUGH[0..33])?;
 
     println!(rt, "The same, with an unknown tag")?;
     let mut unknown = HOUSE_DOUGH;
-    unknown[11] = 0x09;
+    unknown[12] = 0x09;
     print_verdict(rt, &unknown)?;
 
     println!(rt, "The same, with a byte left over")?;
-    let mut longer = [0; 31];
-    longer[0..30].copy_from_slice(&HOUSE_DOUGH);
+    let mut longer = [0; 35];
+    longer[0..34].copy_from_slice(&HOUSE_DOUGH);
     print_verdict(rt, &longer)
 }
 

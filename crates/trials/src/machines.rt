@@ -40,7 +40,7 @@ const ENDLESS: [u8; 13] = [
     0x00,
 ];
 
-// functions of one name inside one another, in which a machine that does not tell two uses of an argument apart has no end
+// an argument that is used twice, once inside itself: a machine that does not tell the two uses apart never ends
 const NESTED: [u8; 25] = [
     0x01,
     0x02,
@@ -114,10 +114,11 @@ fn run<M: Machine>(machine: &mut M, most: u32) -> Result<Counts, MachineFault> {
     Ok(made)
 }
 
-// A recipe, how often each kind of transition is made of it, and the code that stands then.
+// A recipe, its size, how often each kind of transition is made of it, and the code that stands then.
 #[derive(Clone, Copy)]
 struct Trial<'a> {
     code: &'a [u8],
+    size: u16,
     counts: Counts,
     standing: &'a [u8],
 }
@@ -131,7 +132,7 @@ fn stands<M: Machine>(machine: &M, code: &[u8]) -> Result<(), Fail> {
 }
 
 fn ends<M: Machine>(machine: &mut M, trial: &Trial) -> Result<(), Fail> {
-    machine.start(trial.code)?;
+    check_eq(machine.start(trial.code), Ok(trial.size))?;
     check_eq(run(machine, 1000)?, trial.counts)?;
     check_eq(machine.due(), Ok(Outcome::Done))?;
     stands(machine, trial.standing)?;
@@ -143,26 +144,31 @@ fn all_end<M: Machine>(machine: &mut M) -> Result<(), Fail> {
     let trials = [
         Trial {
             code: &[0x04, 0x00, 0x05],
+            size: 1,
             counts: counted(0, 0, 0),
             standing: &[0x04, 0x00, 0x05],
         },
         Trial {
             code: &IDENTITY,
+            size: 4,
             counts: counted(1, 1, 1),
             standing: &[0x04, 0x00, 0x05],
         },
         Trial {
             code: &[0x01, 0x02, 0x03, 0x00, 0x02, 0x03, 0x00],
+            size: 5,
             counts: counted(1, 1, 1),
             standing: &[0x02, 0x03, 0x00],
         },
         Trial {
             code: &[0x01, 0x04, 0x00, 0x01, 0x04, 0x00, 0x02],
+            size: 3,
             counts: counted(0, 0, 1),
             standing: &[0x01, 0x04, 0x00, 0x01, 0x04, 0x00, 0x02],
         },
         Trial {
             code: &NESTED,
+            size: 18,
             counts: counted(6, 7, 6),
             standing: &[0x02, 0x01, 0x03, 0x00, 0x03, 0x00],
         },
