@@ -3,5 +3,5 @@ pub mod Steps
 pub mod Links
 pub mod Storing
 pub mod Starts
-pub mod Looks
+pub mod Writes
 pub mod Rules

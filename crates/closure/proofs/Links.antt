@@ -1,9 +1,9 @@
 -- The walk along a chain of entries. Assumes nothing.
-use mathlib.Core.Path.{_≡_, refl, ap, sym, subst, _∙_}
+use mathlib.Core.Path.{_≡_, refl, ap, sym, _∙_}
 use mathlib.Core.Bool.{true}
-use Prim.Native.Nat.{ℕ, suc, _+_, _≤_, _<_}
+use Prim.Native.Nat.{ℕ, _+_, _<_}
 use native.Mathlib.Omega.{arith}
-use lib.ListN.{length, getD, take}
+use lib.ListN.{length, getD}
 use lib.Seq.{getD-take}
 use Rattle.std.proofs.shelf.Lists.{getD-default}
 use mathlib.Core.List.{List}
@@ -13,7 +13,7 @@ use Rattle.std.specs.declared.option.Option.{Option}
 use Rattle.std.specs.declared.option.Option.the-variants.{Some, None}
 use Rattle.closure_tables.specs.declared.rows.Entry.{Entry}
 use Rattle.closure_tables.specs.Tables.{blank-entry, Tables, below}
-use Rattle.closure_tables.specs.Presented.{height, chain-in, configured}
+use Rattle.closure_tables.specs.Presented.{chain-in, configured}
 use Rattle.closure_tables.specs.Valid.{valid}
 use Rattle.closure_tables.specs.Steps.{StepsAs}
 use Rattle.closure_tables.specs.Moves.{fetched}
@@ -25,8 +25,9 @@ use Rattle.std.specs.declared.result.Result.the-variants.{Ok}
 use Rattle.machine.specs.declared.outcomes.Outcome.the-variants.{Made}
 use Rattle.machine.specs.declared.outcomes.Transition.the-variants.{Substitution}
 use Rattle.abstract_machine.specs.Configurations.{used-by}
-use Rattle.closure_tables.proofs.Kept.{Kept, kept, entry-is, falling}
-use Rattle.closure_tables.proofs.Chains.{chain-cons}
+use Rattle.closure_tables.proofs.Kept.{kept, argument-is}
+use Rattle.closure_view.specs.Links.{linked}
+use Rattle.closure_view.proofs.Chains.{linked-is}
 use Rattle.closure.specs.declared.state.Closure.{Closure}
 use Rattle.closure.specs.Views.{tables-of, Hand, capacity-of, used-of, configuration}
 use Rattle.closure.proofs.Views.{entries-long}
@@ -35,10 +36,6 @@ use Rattle.closure.proofs.Steps.{standing, reaches}
 abbrev entries-of : Closure → List Entry
 entries-of m = tables-of m .entries
 
-pub link-front : (es : List Entry) (c : Option ℕ) → c ≡ nth (chain-in es c) 0
-link-front es None = refl
-link-front es (Some e) = refl
-
 -- a row read from the table is the entry
 pub entry-read : (m : Closure) (e : ℕ) (x : Entry) → e < m .levels .entries .used → x ≡ getD (vec-items (m .entries)) e x → x ≡ getD (entries-of m) e blank-entry
 entry-read m e x low read =
@@ -46,21 +43,14 @@ entry-read m e x low read =
     let inside : e < length rows = omega (arith, m .levels .entries .within, m .«entries_fit», m .entries .ok) in
     read ∙ getD-default rows e x blank-entry inside ∙ sym (getD-take (m .levels .entries .used) rows e blank-entry low)
 
--- one entry further
-pub link-next :
-    (m : Closure) → 0 < m .levels .nodes .used → (e k : ℕ) (x : Entry) → e < m .levels .entries .used → x ≡ getD (vec-items (m .entries)) e x →
-    (nth (chain-in (entries-of m) (Some e)) (suc k) ≡ nth (chain-in (entries-of m) (x .next)) k) × (height (x .next) ≤ m .levels .entries .used)
-link-next m stands e k x low read =
+-- the walk along the chain in hand
+pub hand-linked :
+    (m : Closure) (es : List Entry) (j : ℕ) (o : Option ℕ) → 0 < m .levels .nodes .used → es ≡ entries-of m → o ≡ linked es (m .hand .chain) j →
+    nth (chain-in (entries-of m) (m .hand .chain)) j ≡ o
+hand-linked m es j o stands same found =
     let t = tables-of m in
     let ok = kept t (standing m stands) (m .kept) in
-    let long = entries-long m in
-    let is = entry-read m e x low read in
-    let next : height (getD (entries-of m) e blank-entry .next) ≤ e = entry-is t ok e (omega arith) .1 in
-    let same = ap (λ y. height (y .next)) is in (
-      ap (λ c. nth c (suc k)) (chain-cons (entries-of m) e (falling t ok (suc e) (omega arith)))
-          ∙ ap (λ y. nth (chain-in (entries-of m) (y .next)) k) (sym is),
-      omega arith,
-    )
+    sym (linked-is t ok (m .hand .chain) j (argument-is _ _ (m .hand) (ok .hand) .chain)) ∙ ap (λ x. linked x (m .hand .chain) j) (sym same) ∙ sym found
 
 -- substitution
 

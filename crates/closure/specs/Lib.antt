@@ -1,4 +1,2 @@
 pub mod Views
 pub mod Stores
-pub mod Heads
-pub mod Looks

@@ -10,11 +10,11 @@ use closure_tables::Entry;
 use tables::Levels;
 
 mod dues;
-mod looks;
 mod machine;
 mod starts;
 mod steps;
 mod storing;
+mod writes;
 
 pub use machine::ClosureMachine;
 

@@ -1,15 +1,13 @@
-ghost use mathlib.Core.Path.{_≡_};
-ghost use Prim.Native.Nat.{_<_, _≤_};
-ghost use Rattle.std.specs.Finite.{nth};
-ghost use Rattle.closure_tables.specs.Presented.{height, chain-in};
+ghost use Prim.Native.Nat.{_<_};
 ghost use Rattle.std.specs.declared.result.Result.the-variants.{Ok};
 ghost use Rattle.closure_tables.specs.declared.rows.Cell.the-variants.{Application, Function, Place};
 ghost use Rattle.closure_tables.specs.Steps.{StepsAs};
-ghost use Rattle.closure.specs.Views.{tables-of, Hand, configuration};
+ghost use Rattle.closure.specs.Views.{Hand, configuration};
 use crate::state::Closure;
 use closure_tables::Argument;
 use closure_tables::Cell;
 use closure_tables::Entry;
+use closure_view::link;
 use machine::MachineFault;
 use machine::Outcome;
 use machine::Table;
@@ -59,25 +57,14 @@ impl Closure {
         Outcome::Made(Transition::Beta)
     }
 
-    // The entry that fills the place of that index, counted along a chain.
-    pub(super) fn link(&self, mut chain: Option<u32>, index: u8) -> Option<u32>
-        requires standing { ⌜ 0 < now self .levels .nodes .used ⌝ }
-        requires inside { ⌜ height chain ≤ now self .levels .entries .used ⌝ }
-        ensures { λ r. ⌜ r ≡ nth (chain-in (tables-of (now (self .entry)) .entries) chain) index ⌝ }
-    {
-        for _ in 0..index {
-            chain = self.entries[chain? as usize].next;
-        }
-        chain
-    }
-
     // Substitution: what fills the place is next.
     fn fetch(&mut self, index: u8) -> Outcome
         requires standing { ⌜ 0 < now self .levels .nodes .used ⌝ }
         requires hand { ⌜ Hand (now self) (Place index) ⌝ }
         ensures { λ r. ⌜ StepsAs (configuration (now (self .entry))) (Ok r) (configuration (now (self .exit))) ⌝ }
     {
-        let Some(entry) = self.link(self.hand.chain, index) else {
+        let entries = &self.entries[0..self.levels.entries.used()];
+        let Some(entry) = link(entries, self.hand.chain, index) else {
             unreachable()
         };
         self.hand = self.entries[entry as usize].argument;

@@ -1,11 +1,11 @@
 use mathlib.Core.Path.{_≡_}
 use Rattle.closure_tables.specs.Presented.{height}
 use Rattle.closure_tables.specs.Positions.{term-inside}
-use Rattle.closure.specs.Views.{tables-of}
-use Rattle.closure.proofs.Looks.{Held}
-use Rattle.closure.proofs.state.Closure.resolve.Given as given
+use Rattle.closure_view.specs.Views.{tables-of}
+use Rattle.closure_view.proofs.Shown.{Held}
+use Rattle.closure_view.proofs.views.View.resolve.Given as given
 
--- the spot is below the levels, and the same term stands there
+-- the spot is inside, and the same term stands there
 abbrev pub Inv-loop-index : given.InvT-loop-index
 Inv-loop-index l =
     Held (l .self) (l .spot)

@@ -4,7 +4,7 @@ ghost use Prim.Native.Nat.{_-_, _<_, _^_};
 ghost use Rattle.writer.specs.declared.heads.Head.the-variants.{Application};
 ghost use Rattle.closure_tables.specs.Presented.{height};
 ghost use Rattle.closure_tables.specs.Positions.{closure-spot, spine-number, spot-number};
-ghost use Rattle.closure.specs.Heads.{cell-head, link-index};
+ghost use Rattle.closure_view.specs.Heads.{cell-head, link-index};
 use crate::positions::spine_number;
 use crate::positions::spot_number;
 use closure_tables::Argument;

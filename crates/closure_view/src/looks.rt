@@ -1,48 +1,45 @@
 ghost use mathlib.Core.Path.{_≡_};
 ghost use mathlib.Core.Bool.{true};
 ghost use Prim.Native.Nat.{_-_, _<_, _≤_};
-ghost use lib.ListN.{getD};
-ghost use Rattle.std.specs.Of.Vec.{vec-items};
-ghost use Rattle.machine.specs.Rules.{write-of};
-ghost use Rattle.closure.specs.Views.{meaning};
-ghost use Rattle.closure.specs.Looks.{standing-at, holds-spot, root-of, Shows, ShowsOnSpine, Resolved};
+ghost use lib.ListN.{length, getD};
+ghost use Rattle.closure_tables.specs.Positions.{root, spot-inside};
+ghost use Rattle.closure_view.specs.Views.{tables-of};
+ghost use Rattle.closure_view.specs.Looks.{standing-at, Shows, ShowsOnSpine, Resolved};
 use crate::heads::applied_head;
 use crate::heads::cell_head;
 use crate::heads::closure_spot;
 use crate::heads::link_index;
+use crate::links::link;
 use crate::positions::height;
 use crate::positions::position_of;
 use crate::positions::spine_number;
-use crate::state::Closure;
+use crate::views::View;
 use closure_tables::Argument;
 use closure_tables::Cell;
 use closure_tables::Position;
 use closure_tables::Spot;
-use machine::MachineFault;
 use writer::Head;
 use writer::Unfolding;
-use writer::write_code;
 
-impl Closure {
+impl View<'_> {
     // Whether there are such a node and such a chain.
     fn holds(&self, spot: Spot) -> bool
-        ensures { λ r. ⌜ r ≡ holds-spot (now (self .entry)) spot ⌝ }
+        ensures { λ r. ⌜ r ≡ spot-inside (tables-of (now (self .entry))) spot ⌝ }
     {
-        (spot.node as usize) < self.levels.nodes.used()
-            && height(spot.chain) <= self.levels.entries.used() as u64
+        (spot.node as usize) < self.cells.len() && height(spot.chain) <= self.entries.len() as u64
     }
 
     // Goes from a filled place to what fills it until nothing fills the cell; answers that spot and its cell. At a free place there is none.
     fn resolve(&self, mut spot: Spot) -> Option<(Spot, Cell)>
-        requires { ⌜ holds-spot (now self) spot ≡ true ⌝ }
+        requires { ⌜ spot-inside (tables-of (now self)) spot ≡ true ⌝ }
         ensures { λ r. ⌜ Resolved (now (self .entry)) spot r ⌝ }
     {
         loop {
-            let cell = self.nodes.cells[spot.node as usize];
+            let cell = self.cells[spot.node as usize];
             let Some(index) = link_index(spot.depth, cell) else {
                 return Some((spot, cell));
             };
-            let entry = self.link(spot.chain, index)?;
+            let entry = link(self.entries, spot.chain, index)?;
             spot = closure_spot(self.entries[entry as usize].argument);
         }
     }
@@ -63,17 +60,17 @@ impl Closure {
     // The last of so many stacked arguments, the nearest first.
     fn last_of(&self, taken: usize) -> Argument
         requires some { ⌜ 0 < taken ⌝ }
-        requires stacked { ⌜ taken ≤ now self .levels .stack .used ⌝ }
-        ensures { λ r. ⌜ r ≡ getD (vec-items (now (self .entry) .stack)) (now (self .entry) .levels .stack .used - taken) r ⌝ }
+        requires stacked { ⌜ taken ≤ length (now self .stack .now) ⌝ }
+        ensures { λ r. ⌜ r ≡ getD (now (self .entry) .stack .now) (length (now (self .entry) .stack .now) - taken) r ⌝ }
     {
-        self.stack[self.levels.stack.used() - taken]
+        self.stack[self.stack.len() - taken]
     }
 
     // The head of the closure in hand applied to so many of the stacked arguments.
     fn look_on_spine(&self, taken: usize) -> Head
         ensures { λ r. ⌜ ShowsOnSpine (now (self .entry)) taken r ⌝ }
     {
-        if self.levels.nodes.used() == 0 || taken > self.levels.stack.used() {
+        if self.cells.len() == 0 || taken > self.stack.len() {
             return Head::Nothing;
         }
         if taken == 0 {
@@ -82,34 +79,15 @@ impl Closure {
         applied_head(taken, self.last_of(taken))
     }
 
-    // Where the whole of the standing term is found, if one stands.
-    fn root(&self) -> Option<u64>
-        ensures { λ r. ⌜ r ≡ root-of (now (self .entry)) ⌝ }
+    // Where the whole of the standing term is found.
+    pub fn root(&self) -> u64
+        ensures { λ r. ⌜ r ≡ root (tables-of (now (self .entry))) ⌝ }
     {
-        if self.levels.nodes.used() == 0 {
-            return None;
-        }
-        Some(spine_number(self.levels.stack.used()))
-    }
-
-    // Writes the code of the standing term to the front of the output; answers its length.
-    pub(crate) fn write_standing(
-        &self,
-        output: &mut [u8],
-        scratch: &mut [u64],
-    ) -> Result<usize, MachineFault>
-        ensures answer { λ r. ⌜ r ≡ write-of (meaning (now (self .entry))) (now (output .entry)) (now (scratch .entry)) .answer ⌝ }
-        ensures output { λ _. ⌜ now (output .exit) ≡ write-of (meaning (now (self .entry))) (now (output .entry)) (now (scratch .entry)) .output ⌝ }
-        ensures scratch { λ _. ⌜ now (scratch .exit) ≡ write-of (meaning (now (self .entry))) (now (output .entry)) (now (scratch .entry)) .scratch ⌝ }
-    {
-        let Some(root) = self.root() else {
-            return Err(MachineFault::Empty);
-        };
-        write_code(self, root, output, scratch)
+        spine_number(self.stack.len())
     }
 }
 
-pub impl Unfolding for Closure as ClosureUnfolding {
+pub impl Unfolding for View<'_> as ViewUnfolding {
     ghost term = { standing-at };
 
     fn look(&self, position: u64) -> Head {

@@ -1,6 +1,6 @@
 use native.Mathlib.Omega.{arith}
-use Rattle.closure.proofs.Looks.{hand-shows, last-chain, last-shows}
-use Rattle.closure.proofs.state.Closure.look_on_spine.Needs as need
+use Rattle.closure_view.proofs.Shown.{hand-shows, last-chain, last-shows}
+use Rattle.closure_view.proofs.views.View.look_on_spine.Needs as need
 
 pub returns-then-taken-eq0 : need.returns-then-taken-eq0
 returns-then-taken-eq0 c =
@@ -11,7 +11,7 @@ applied-head-requires c κs =
     let m = c .args .self .now in
     record {
       some = omega arith;
-      few = omega (arith, m .levels .stack .within, m .levels .stack .limited);
+      few = omega arith;
       chain = last-chain m (c .args .taken) (c .last-of .result) (omega arith) (omega arith) (c .last-of .ensures) (omega arith);
     }
 

@@ -1,0 +1,5 @@
+pub mod Heads
+pub mod Lent
+pub mod Links
+pub mod Views
+pub mod Looks
