@@ -6,7 +6,7 @@ use Prim.Native.Nat.{ℕ, suc, _≤_, _<_, max}
 use native.Mathlib.Omega.{arith}
 use lib.Dec.{eqb}
 use lib.ListN.{length}
-use borrow.Author.Tests.{eqb-true, eqb-false, eq-eqb, ne-eqb}
+use borrow.Author.Tests.{eqb-false, eq-eqb, ne-eqb}
 use Rattle.std.proofs.shelf.Tests.{cond-true, cond-false}
 use Rattle.term.specs.Terms as term
 use Rattle.term.specs.Terms.{Term, Covered, Closed, fill, size}

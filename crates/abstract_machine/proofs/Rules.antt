@@ -1,8 +1,8 @@
 -- With tables of limited length, the abstract machine obeys the rules of a machine. Assumes nothing.
-use mathlib.Core.Path.{_≡_, refl, ap, sym, _∙_, subst}
+use mathlib.Core.Path.{_≡_, refl, ap, subst}
 use mathlib.Core.Bool.{true, false, cond}
 use mathlib.Core.List.{List, [], _∷_}
-use Prim.Native.Nat.{ℕ, suc, _+_, _-_, _≤_, _<_}
+use Prim.Native.Nat.{ℕ, suc, _-_, _≤_, _<_}
 use native.Mathlib.Omega.{arith}
 use lib.Dec.{ltb, leb}
 use lib.ListN.{length}
@@ -11,17 +11,15 @@ use Rattle.std.specs.declared.option.Option.{Option}
 use Rattle.std.specs.declared.option.Option.the-variants.{Some, None}
 use Rattle.std.specs.declared.result.Result.the-variants.{Ok, Err}
 use Rattle.term.specs.Terms.{Term, Closed, size}
-use Rattle.term.specs.Reduction.{Step}
 use Rattle.code.specs.Verdicts.{Bytes, Verdict, verdict, accepted, refused, told}
 use Rattle.code.proofs.Lawful.{reading-law}
 use Rattle.machine.specs.declared.faults.MachineFault.the-variants.{TooLarge}
 use Rattle.machine.specs.declared.outcomes.Transition.{Transition}
 use Rattle.machine.specs.declared.outcomes.Transition.the-variants.{Beta, Substitution, Search}
-use Rattle.machine.specs.declared.outcomes.Table.{Table}
 use Rattle.machine.specs.declared.outcomes.Table.the-variants.{Stack, Entries, Nodes}
-use Rattle.machine.specs.declared.outcomes.Outcome.the-variants.{Made, Done, Full}
+use Rattle.machine.specs.declared.outcomes.Outcome.the-variants.{Made, Full}
 use Rattle.machine.specs.Meanings.{Places, Due, transition, done, Standing, SoundStanding, Sound, Within, most-places}
-use Rattle.machine.specs.Rules.{sized, start-of, Stands, StartEffect, AfterStart, emptied, outcome-of, outcome-due, Searched, Substituted, Contracted, Moved, StepEffect, AfterStep}
+use Rattle.machine.specs.Rules.{sized, start-of, Stands, StartEffect, AfterStart, emptied, outcome-of, outcome-due, Moved, StepEffect, AfterStep}
 use Rattle.abstract_machine.specs.Pieces.{Piece, place, ingredient, function, application, filled, unfilled, weight}
 use Rattle.abstract_machine.specs.States.{State, initial, due-of, due-at, next, unfolded}
 use Rattle.abstract_machine.specs.Soundness.{SoundState}

@@ -1,7 +1,7 @@
 -- A state that is sound stays so, and unfolds to a closed term. Assumes nothing.
-use mathlib.Core.Path.{_≡_, refl, ap, sym, _∙_, subst}
-use mathlib.Core.Bool.{Bool, true, false, cond, _&&_}
-use mathlib.Core.List.{List, [], _∷_, map}
+use mathlib.Core.Path.{_≡_, refl, ap, sym, _∙_}
+use mathlib.Core.Bool.{true, false, cond, _&&_}
+use mathlib.Core.List.{List, [], _∷_}
 use Prim.Native.Nat.{ℕ, suc, _≤_, _<_}
 use native.Mathlib.Omega.{arith}
 use lib.Dec.{eqb, leb}
@@ -9,9 +9,8 @@ use lib.ListN.{length}
 use borrow.Author.Tests.{eqb-true, eqb-false}
 use Rattle.std.proofs.shelf.Tests.{and-parts, and-from, leb-true, le-leb}
 use Rattle.term.specs.Terms as term
-use Rattle.term.specs.Terms.{Term, Closed, size}
-use Rattle.abstract_machine.specs.Pieces.{Piece, place, ingredient, function, application, filled, unfilled, weight, reach, outer, opened, numbered, plugged}
-use Rattle.abstract_machine.specs.States.{State, initial, entry-of, next-of, values, applied-to, unfolded}
+use Rattle.abstract_machine.specs.Pieces.{Piece, ingredient, weight, reach, outer, numbered, plugged}
+use Rattle.abstract_machine.specs.States.{State, entry-of, values}
 use Rattle.abstract_machine.specs.Soundness.{SoundPiece, SoundStack, SoundEntries, SoundState, sound-piece, sound-stack, sound-entries, sound-state}
 use Rattle.abstract_machine.proofs.Plugging as pieces
 use Rattle.abstract_machine.proofs.Plugging.{AllClosed}

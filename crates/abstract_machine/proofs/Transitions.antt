@@ -1,17 +1,16 @@
 -- The law of the abstract machine's states. Assumes nothing.
 use mathlib.Core.Path.{_≡_, refl, ap, sym, _∙_, subst}
 use mathlib.Core.List.{List, [], _∷_, map}
-use Prim.Native.Nat.{ℕ, suc, _≤_, _<_}
+use Prim.Native.Nat.{ℕ, suc}
 use native.Mathlib.Omega.{arith}
 use lib.ListN.{length}
 use Rattle.term.specs.Terms as term
 use Rattle.term.specs.Terms.{Term, Closed, fill, size}
 use Rattle.term.specs.Reduction.{Step, beta, left, Neutral, bare, applied, Normal, abstraction, neutral}
-use Rattle.machine.specs.Meanings.{Due, transition, done}
-use Rattle.machine.specs.declared.outcomes.Transition.the-variants.{Beta, Substitution, Search}
-use Rattle.abstract_machine.specs.Pieces.{Piece, place, ingredient, function, application, filled, unfilled, weight, reach, outer, opened, numbered, plugged}
-use Rattle.abstract_machine.specs.States.{State, initial, due-of, due-at, entry-of, next, values, applied-to, unfolded}
-use Rattle.abstract_machine.specs.Soundness.{SoundPiece, SoundStack, SoundEntries, SoundState}
+use Rattle.machine.specs.Meanings.{done}
+use Rattle.abstract_machine.specs.Pieces.{Piece, place, ingredient, function, application, filled, opened, plugged}
+use Rattle.abstract_machine.specs.States.{State, initial, due-at, entry-of, next, values, applied-to, unfolded}
+use Rattle.abstract_machine.specs.Soundness.{SoundStack, SoundState}
 use Rattle.abstract_machine.specs.Law.{Effect, Weighs, Reaches, StateLaw, MachineLaw}
 use Rattle.abstract_machine.proofs.Plugging as pieces
 use Rattle.abstract_machine.proofs.Plugging.{AllClosed}

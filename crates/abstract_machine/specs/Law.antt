@@ -1,7 +1,7 @@
 -- What is promised of the abstract machine. Assumes nothing.
 use mathlib.Core.Path.{_≡_}
-use mathlib.Core.List.{List, [], _∷_}
-use Prim.Native.Nat.{ℕ, suc, _≤_, _<_}
+use mathlib.Core.List.{List}
+use Prim.Native.Nat.{ℕ, _≤_, _<_}
 use lib.ListN.{length}
 use Rattle.term.specs.Terms.{Term, Closed, size}
 use Rattle.term.specs.Reduction.{Step, Normal}

@@ -29,7 +29,7 @@ use Rattle.closure_tables.proofs.Kept.{kept, argument-is}
 use Rattle.closure_view.specs.Links.{linked}
 use Rattle.closure_view.proofs.Chains.{linked-is}
 use Rattle.closure.specs.declared.state.Closure.{Closure}
-use Rattle.closure.specs.Views.{tables-of, Hand, capacity-of, used-of, configuration}
+use Rattle.closure.specs.Views.{tables-of, Hand, capacities, places-used, configuration}
 use Rattle.closure.proofs.Views.{entries-long}
 use Rattle.closure.proofs.Steps.{standing, reaches}
 
@@ -71,11 +71,11 @@ fetched-is m e x low read =
 
 pub substitution-made :
     (m : Closure) (j e : ℕ) (x : Entry) → 0 < m .levels .nodes .used → Hand m (cell.Place j) → nth (chain-in (entries-of m) (m .hand .chain)) j ≡ Some e → x ≡ getD (vec-items (m .entries)) e x →
-    StepsAs (configuration m) (Ok (Made Substitution)) (configured (capacity-of m) (used-of m) (with-hand m (x .argument)))
+    StepsAs (configuration m) (Ok (Made Substitution)) (configured (capacities m) (places-used m) (with-hand m (x .argument)))
 substitution-made m j e x stands hand found read =
-    let free : used-of m ≡ used-by Substitution 0 (used-of m) = let none : m .levels .nodes .used + 0 ≡ m .levels .nodes .used = omega arith in cc in
-    reaches (configuration m) (Ok (Made Substitution)) (capacity-of m) (capacity-of m) (used-by Substitution 0 (used-of m)) (used-of m) (fetched e (tables-of m)) (with-hand m (x .argument))
-    (agree.substitution-as (capacity-of m) (used-of m) (tables-of m) j e (standing m stands) (m .kept) hand found)
+    let free : places-used m ≡ used-by Substitution 0 (places-used m) = let none : m .levels .nodes .used + 0 ≡ m .levels .nodes .used = omega arith in cc in
+    reaches (configuration m) (Ok (Made Substitution)) (capacities m) (capacities m) (used-by Substitution 0 (places-used m)) (places-used m) (fetched e (tables-of m)) (with-hand m (x .argument))
+    (agree.substitution-as (capacities m) (places-used m) (tables-of m) j e (standing m stands) (m .kept) hand found)
     refl free (fetched-is m e x (entry-low m j e stands found) read)
 
 pub substitution-keeps :

@@ -1,8 +1,8 @@
 -- What a reading leaves in the closure machine's tables. Assumes nothing.
 use mathlib.Core.Path.{_≡_, refl, ap, sym, subst, _∙_}
-use mathlib.Core.Bool.{true, false, cond}
+use mathlib.Core.Bool.{true}
 use mathlib.Core.List.{List, [], _∷_}
-use Prim.Native.Nat.{ℕ, _+_, _-_, _≤_, _<_, min}
+use Prim.Native.Nat.{ℕ, _-_, _≤_, _<_, min}
 use native.Mathlib.Omega.{arith}
 use lib.Dec.{leb}
 use lib.ListN.{length, take}
@@ -11,30 +11,27 @@ use Rattle.std.proofs.shelf.Tests.{cond-true, le-leb}
 use Rattle.std.specs.Of.Vec.{vec-items, vec-len}
 use Rattle.std.specs.Iters.{folded}
 use Rattle.std.specs.declared.option.Option.the-variants.{Some, None}
-use Rattle.std.specs.declared.result.Result.{Result}
 use Rattle.std.specs.declared.result.Result.the-variants.{Ok, Err}
 use Rattle.term.specs.Terms.{Term, size}
-use Rattle.node.specs.declared.faults.Fault.{Fault}
 use Rattle.node.specs.declared.nodes.Located.{Located}
 use Rattle.code.specs.Law.{ReadingLaw}
 use Rattle.code.specs.Scans.{handed-over}
-use Rattle.code.specs.Verdicts.{Verdict, verdict, accepted, refused, told}
-use Rattle.machine.specs.declared.faults.MachineFault.{MachineFault}
+use Rattle.code.specs.Verdicts.{verdict, accepted, refused, told}
 use Rattle.machine.specs.declared.faults.MachineFault.the-variants.{TooLarge}
 use Rattle.machine.specs.Meanings.{Places}
 use Rattle.machine.specs.Rules.{sized, start-of}
 use Rattle.abstract_machine.specs.States.{initial}
-use Rattle.abstract_machine.specs.Configurations.{Configuration, explained, holding, after-start, started}
+use Rattle.abstract_machine.specs.Configurations.{explained, holding, after-start, started}
 use Rattle.tables.specs.declared.levels.Levels.{Levels}
 use Rattle.tables.specs.Usages.{usages, cleared}
 use Rattle.closure_tables.specs.Tables.{blank-argument, Tables, below}
-use Rattle.closure_tables.specs.Presented.{presented, loaded-in, configured, no-price}
+use Rattle.closure_tables.specs.Presented.{loaded-in, configured, no-price}
 use Rattle.closure_tables.specs.Valid.{valid}
 use Rattle.closure_tables.specs.Received as store
-use Rattle.closure_tables.specs.Received.{Received, received, nothing-received}
+use Rattle.closure_tables.specs.Received.{received, nothing-received}
 use Rattle.closure_tables.proofs.Agree.{loaded-some, loaded-none}
 use Rattle.abstract_machine.proofs.Rules.{size-some}
-use Rattle.closure_tables.proofs.Started.{StartedTables, code-started}
+use Rattle.closure_tables.proofs.Started.{code-started}
 use Rattle.closure.specs.declared.state.Nodes.{Nodes}
 use Rattle.closure.specs.declared.state.Closure.{Closure}
 use Rattle.closure.specs.Views.{tables-of, configuration, meaning}

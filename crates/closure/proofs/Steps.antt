@@ -1,5 +1,5 @@
 -- What the closure machine's code does to its tables is what each transition does. Assumes nothing.
-use mathlib.Core.Path.{_≡_, refl, ap, sym, subst, _∙_}
+use mathlib.Core.Path.{_≡_, ap, sym, subst, _∙_}
 use mathlib.Core.Bool.{true}
 use mathlib.Core.List.{List, [], _∷_, _++_}
 use Prim.Native.Nat.{ℕ, suc, _+_, _-_, _≤_, _<_}
@@ -15,7 +15,7 @@ use Rattle.std.specs.declared.result.Result.the-variants.{Ok}
 use Rattle.machine.specs.declared.faults.MachineFault.{MachineFault}
 use Rattle.machine.specs.declared.outcomes.Outcome.{Outcome}
 use Rattle.machine.specs.declared.outcomes.Outcome.the-variants.{Made, Done, Full}
-use Rattle.machine.specs.declared.outcomes.Transition.the-variants.{Beta, Substitution, Search}
+use Rattle.machine.specs.declared.outcomes.Transition.the-variants.{Beta, Search}
 use Rattle.machine.specs.declared.outcomes.Table.the-variants.{Stack, Entries}
 use Rattle.machine.specs.Meanings.{Places}
 use Rattle.abstract_machine.specs.Configurations.{Configuration, used-by}
@@ -29,12 +29,12 @@ use Rattle.closure_tables.specs.declared.rows.Entry.{Entry}
 use Rattle.closure_tables.specs.Tables.{blank-cell, blank-argument, Tables, below}
 use Rattle.closure_tables.specs.Presented.{configured}
 use Rattle.closure_tables.specs.Steps.{StepsAs}
-use Rattle.closure_tables.specs.Moves.{descended, entered, fetched}
+use Rattle.closure_tables.specs.Moves.{descended, entered}
 use Rattle.closure_tables.specs.Valid.{valid}
 use Rattle.closure_tables.proofs.Kept.{kept, argument-is}
 use Rattle.closure_tables.proofs.Agree as agree
 use Rattle.closure.specs.declared.state.Closure.{Closure}
-use Rattle.closure.specs.Views.{tables-of, Hand, capacity-of, used-of, configuration}
+use Rattle.closure.specs.Views.{tables-of, Hand, capacities, places-used, configuration}
 use Rattle.closure.proofs.Views.{cells-long, entries-long, stack-long}
 
 pub standing : (m : Closure) → 0 < m .levels .nodes .used → 0 < length (tables-of m .cells)
@@ -92,8 +92,8 @@ search-made m l at right stands hand place level =
     let p = pushed m l at right place level in
     let capacity = p .capacity in
     let used = p .used in
-    reaches (configuration m) (Ok (Made Search)) (capacity-of m) (stack-capacity m l) (used-by Search 0 (used-of m)) (stack-used m l) (descended right (tables-of m)) (after-search m l at right)
-    (agree.search-as (capacity-of m) (used-of m) (tables-of m) right (standing m stands) (m .kept) hand (p .free))
+    reaches (configuration m) (Ok (Made Search)) (capacities m) (stack-capacity m l) (used-by Search 0 (places-used m)) (stack-used m l) (descended right (tables-of m)) (after-search m l at right)
+    (agree.search-as (capacities m) (places-used m) (tables-of m) right (standing m stands) (m .kept) hand (p .free))
     (cc) (cc) (p .tables)
 
 pub search-keeps :
@@ -112,8 +112,8 @@ search-full m l right stands hand place level =
     let u = usages.untaken (usage (m .levels .stack)) place in
     let capacity : l .capacity ≡ m .levels .stack .capacity = ap (λ x. x .capacity) level in
     let used : l .used ≡ m .levels .stack .used = ap (λ x. x .used) level ∙ u .level in
-    reaches (configuration m) (Ok (Full Stack)) (capacity-of m) (stack-capacity m l) (used-of m) (stack-used m l) (tables-of m) (with-stack m l (vec-items (m .stack)) (m .hand))
-    (agree.search-full-as (capacity-of m) (used-of m) (tables-of m) right (standing m stands) (m .kept) hand (u .full))
+    reaches (configuration m) (Ok (Full Stack)) (capacities m) (stack-capacity m l) (places-used m) (stack-used m l) (tables-of m) (with-stack m l (vec-items (m .stack)) (m .hand))
+    (agree.search-full-as (capacities m) (places-used m) (tables-of m) right (standing m stands) (m .kept) hand (u .full))
     (cc) (cc) (cc)
 
 -- β
@@ -140,8 +140,8 @@ pub record Popping (m : Closure) (es st : Level) (e top : ℕ) (a : Argument) : 
 record Entered (m : Closure) (es st : Level) (e : ℕ) (a : Argument) : Type 0 where
   free : m .levels .entries .used < m .levels .entries .capacity
   stacked : 0 < length (tables-of m .stack)
-  capacity : beta-capacity m es st ≡ capacity-of m
-  used : beta-used m es st ≡ used-by Beta 0 (used-of m)
+  capacity : beta-capacity m es st ≡ capacities m
+  used : beta-used m es st ≡ used-by Beta 0 (places-used m)
   tables : after-beta m es st e a ≡ entered (tables-of m)
 
 popped : (m : Closure) (es st : Level) (e top : ℕ) (a : Argument) → Popping m es st e top a → Entered m es st e a
@@ -179,13 +179,13 @@ pub beta-made :
     StepsAs (configuration m) (Ok (Made Beta)) (configured (beta-capacity m es st) (beta-used m es st) (after-beta m es st e a))
 beta-made m es st e top a stands hand p =
     let q = popped m es st e top a p in
-    reaches (configuration m) (Ok (Made Beta)) (capacity-of m) (beta-capacity m es st) (used-by Beta 0 (used-of m)) (beta-used m es st) (entered (tables-of m)) (after-beta m es st e a)
-    (agree.beta-as (capacity-of m) (used-of m) (tables-of m) (standing m stands) (m .kept) hand (q .stacked) (q .free))
+    reaches (configuration m) (Ok (Made Beta)) (capacities m) (beta-capacity m es st) (used-by Beta 0 (places-used m)) (beta-used m es st) (entered (tables-of m)) (after-beta m es st e a)
+    (agree.beta-as (capacities m) (places-used m) (tables-of m) (standing m stands) (m .kept) hand (q .stacked) (q .free))
     (q .capacity) (q .used) (q .tables)
 
 pub beta-keeps :
     (m : Closure) (es st : Level) (e top : ℕ) (a : Argument) → 0 < m .levels .nodes .used → Hand m cell.Function → Popping m es st e top a →
-    (beta-capacity m es st ≡ capacity-of m) × (valid (after-beta m es st e a) ≡ true)
+    (beta-capacity m es st ≡ capacities m) × (valid (after-beta m es st e a) ≡ true)
 beta-keeps m es st e top a stands hand p =
     let q = popped m es st e top a p in
     (q .capacity, ap valid (q .tables) ∙ agree.beta-valid (tables-of m) (standing m stands) (m .kept) hand (q .stacked))
@@ -201,13 +201,13 @@ beta-full m es stands hand stacked place level =
     let u = usages.untaken (usage (m .levels .entries)) place in
     let capacity : es .capacity ≡ m .levels .entries .capacity = ap (λ x. x .capacity) level in
     let used : es .used ≡ m .levels .entries .used = ap (λ x. x .used) level ∙ u .level in
-    reaches (configuration m) (Ok (Full Entries)) (capacity-of m) (beta-capacity m es (m .levels .stack)) (used-of m) (beta-used m es (m .levels .stack)) (tables-of m) (with-entries m es)
-    (agree.beta-full-as (capacity-of m) (used-of m) (tables-of m) (standing m stands) (m .kept) hand (omega (arith, stack-long m)) (u .full))
+    reaches (configuration m) (Ok (Full Entries)) (capacities m) (beta-capacity m es (m .levels .stack)) (places-used m) (beta-used m es (m .levels .stack)) (tables-of m) (with-entries m es)
+    (agree.beta-full-as (capacities m) (places-used m) (tables-of m) (standing m stands) (m .kept) hand (omega (arith, stack-long m)) (u .full))
     (cc) (cc) (cc)
 
 pub beta-done : (m : Closure) → 0 < m .levels .nodes .used → Hand m cell.Function → m .levels .stack .used ≡ 0 → StepsAs (configuration m) (Ok Done) (configuration m)
 beta-done m stands hand none =
-    agree.function-done-as (capacity-of m) (used-of m) (tables-of m) (standing m stands) (m .kept) hand (omega (arith, stack-long m))
+    agree.function-done-as (capacities m) (places-used m) (tables-of m) (standing m stands) (m .kept) hand (omega (arith, stack-long m))
 
 -- the cell in hand, as it is read
 pub cell-read : (m : Closure) (x : Cell) → 0 < m .levels .nodes .used → x ≡ getD (vec-items (m .nodes .cells)) (m .hand .node) x → Hand m x
@@ -219,4 +219,4 @@ cell-read m x stands read =
     getD-take (m .levels .nodes .used) rows (m .hand .node) blank-cell low ∙ getD-default rows (m .hand .node) blank-cell x inside ∙ sym read
 
 pub ingredient-done : (m : Closure) (j : ℕ) → 0 < m .levels .nodes .used → Hand m (cell.Ingredient j) → StepsAs (configuration m) (Ok Done) (configuration m)
-ingredient-done m j stands hand = agree.ingredient-done-as (capacity-of m) (used-of m) (tables-of m) j (standing m stands) (m .kept) hand
+ingredient-done m j stands hand = agree.ingredient-done-as (capacities m) (places-used m) (tables-of m) j (standing m stands) (m .kept) hand

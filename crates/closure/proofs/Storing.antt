@@ -1,23 +1,20 @@
 -- A node more in the closure machine's table. Assumes nothing.
-use mathlib.Core.Path.{_≡_, refl, ap, sym, subst, _∙_}
-use mathlib.Core.Bool.{true, false, cond}
-use mathlib.Core.List.{List, [], _∷_, _++_}
-use Prim.Native.Nat.{ℕ, suc, _+_, _-_, _≤_, _<_, min}
+use mathlib.Core.Path.{_≡_, ap, _∙_}
+use mathlib.Core.List.{[], _∷_, _++_}
+use Prim.Native.Nat.{ℕ, _+_, _-_, _<_, min}
 use native.Mathlib.Omega.{arith}
 use lib.ListN.{length, set, take}
 use Rattle.std.specs.Of.Vec.{vec-items, vec-len}
-use Rattle.std.specs.Iters.{folded}
-use Rattle.std.specs.declared.option.Option.the-variants.{Some, None}
+use Rattle.std.specs.declared.option.Option.the-variants.{Some}
 use Rattle.node.specs.declared.nodes.Located.{Located}
 use Rattle.tables.specs.declared.levels.Levels.{Levels}
 use Rattle.tables.specs.declared.levels.Level.{Level}
 use Rattle.tables.specs.Usages.{usage, first-free, one-more}
 use Rattle.tables.proofs.Usages as usages
-use Rattle.closure_tables.specs.declared.rows.Cell.{Cell}
-use Rattle.closure_tables.specs.Received.{Received, received, cell-of, joined}
+use Rattle.closure_tables.specs.Received.{received, cell-of, joined}
 use Rattle.closure_tables.proofs.Storing as storing
 use Rattle.closure.specs.declared.state.Nodes.{Nodes}
-use Rattle.closure.specs.Stores.{Stored, stored-in, storing as store-of}
+use Rattle.closure.specs.Stores.{stored-in}
 
 -- a node was stored at the level, which rose
 pub stored-more :

@@ -18,7 +18,7 @@ use Rattle.closure_tables.proofs.Spines.{root-is}
 use Rattle.closure_tables.proofs.Agree.{loaded-some}
 use Rattle.closure_view.specs.Lent.{lent}
 use Rattle.closure.specs.declared.state.Closure.{Closure}
-use Rattle.closure.specs.Views.{tables-of, capacity-of, used-of, meaning}
+use Rattle.closure.specs.Views.{tables-of, capacities, places-used, meaning}
 use Rattle.closure.proofs.Views.{entries-long, part-is}
 use Rattle.closure.proofs.Steps.{standing}
 
@@ -43,4 +43,4 @@ root-written m t p output scratch some same at =
     let stands = standing m some in
     let whole = ap (term-at t) at ∙ ap (λ x. term-at x (root x)) same ∙ root-is (tables-of m) stands in
     ap (λ x. written x output scratch) whole
-    ∙ sym (ap (λ l. write-of (explained no-price (record { capacity = capacity-of m; used = used-of m; loaded = l })) output scratch) (loaded-some (tables-of m) stands))
+    ∙ sym (ap (λ l. write-of (explained no-price (record { capacity = capacities m; used = places-used m; loaded = l })) output scratch) (loaded-some (tables-of m) stands))

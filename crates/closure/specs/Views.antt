@@ -22,21 +22,21 @@ tables-of m =
 abbrev pub Hand : Closure → Cell → Type 0
 Hand m x = getD (tables-of m .cells) (m .hand .node) blank-cell ≡ x
 
-abbrev pub capacity-of : Closure → Places
-capacity-of m = record { stack = m .levels .stack .capacity; entries = m .levels .entries .capacity; nodes = m .levels .nodes .capacity }
+abbrev pub capacities : Closure → Places
+capacities m = record { stack = m .levels .stack .capacity; entries = m .levels .entries .capacity; nodes = m .levels .nodes .capacity }
 
-abbrev pub used-of : Closure → Places
-used-of m = record { stack = m .levels .stack .used; entries = m .levels .entries .used; nodes = m .levels .nodes .used }
+abbrev pub places-used : Closure → Places
+places-used m = record { stack = m .levels .stack .used; entries = m .levels .entries .used; nodes = m .levels .nodes .used }
 
 abbrev pub configuration : Closure → Configuration
-configuration m = configured (capacity-of m) (used-of m) (tables-of m)
+configuration m = configured (capacities m) (places-used m) (tables-of m)
 
 abbrev pub meaning : Closure → Meaning
 meaning m = explained no-price (configuration m)
 
 -- a new machine over tables of those lengths
-abbrev pub unused : ℕ → ℕ → ℕ → Configuration
-unused nodes entries stack = record {
+abbrev pub as-made : ℕ → ℕ → ℕ → Configuration
+as-made nodes entries stack = record {
   capacity = record { stack = limits.capacity-of stack stack-limit; entries = limits.capacity-of entries entry-limit; nodes = limits.capacity-of nodes node-limit };
   used = record { stack = 0; entries = 0; nodes = 0 };
   loaded = None;

@@ -1,19 +1,16 @@
 -- Tables as configurations of the abstract machine: they are sound, and step as it does. Assumes nothing.
 use mathlib.Core.Path.{_≡_, refl, ap, sym, subst, _∙_}
-use mathlib.Core.Bool.{true, false, cond}
-use mathlib.Core.List.{List, [], _∷_}
-use Prim.Native.Nat.{ℕ, suc, _+_, _-_, _≤_, _<_}
+use mathlib.Core.Bool.{true, false}
+use Prim.Native.Nat.{ℕ, _-_, _≤_, _<_}
 use native.Mathlib.Omega.{arith}
 use lib.Dec.{eqb}
 use lib.ListN.{length}
 use borrow.Author.Tests.{ne-eqb, eq-eqb, eqb-true, eqb-false}
 use Rattle.std.proofs.shelf.Tests.{cond-true, cond-false, lt-ltb, le-ltb, le-leb}
-use Rattle.std.specs.declared.option.Option.{Option}
 use Rattle.std.specs.declared.option.Option.the-variants.{Some, None}
 use Rattle.std.specs.declared.result.Result.{Result}
-use Rattle.std.specs.declared.result.Result.the-variants.{Ok, Err}
+use Rattle.std.specs.declared.result.Result.the-variants.{Ok}
 use Rattle.machine.specs.declared.faults.MachineFault.{MachineFault}
-use Rattle.machine.specs.declared.faults.MachineFault.the-variants as refusal
 use Rattle.machine.specs.declared.outcomes.Transition.{Transition}
 use Rattle.machine.specs.declared.outcomes.Transition.the-variants.{Beta, Substitution, Search}
 use Rattle.machine.specs.declared.outcomes.Table.{Table}
@@ -22,8 +19,8 @@ use Rattle.machine.specs.declared.outcomes.Outcome.{Outcome}
 use Rattle.machine.specs.declared.outcomes.Outcome.the-variants.{Made, Done, Full}
 use Rattle.machine.specs.Meanings.{Places, Due, transition, done, Within, most-places}
 use Rattle.machine.specs.Rules.{afforded, outcome-of, outcome-due}
-use Rattle.abstract_machine.specs.States.{State, due-of, next}
-use Rattle.abstract_machine.specs.Configurations.{Loaded, Configuration, free-of, explained, used-by, after-step, stepped, SoundLoaded, SoundConfiguration}
+use Rattle.abstract_machine.specs.States.{due-of, next}
+use Rattle.abstract_machine.specs.Configurations.{Loaded, Configuration, free-of, explained, used-by, after-step, SoundLoaded, SoundConfiguration}
 use Rattle.closure_tables.specs.Tables.{Tables}
 use Rattle.closure_tables.specs.Presented.{closure-of, entry-piece, presented, loaded-in, configured, no-price}
 use Rattle.closure_tables.specs.Valid.{valid}
@@ -32,14 +29,11 @@ use Rattle.closure_tables.specs.Moves.{descended, entered, fetched}
 use Rattle.closure_tables.specs.declared.rows.Cell.the-variants as cell
 use Rattle.std.specs.Finite.{nth}
 use Rattle.closure_tables.proofs.Latest.{length-latest}
-use Rattle.closure_tables.proofs.Kept.{Kept, kept, kept-valid}
+use Rattle.closure_tables.proofs.Kept.{kept, kept-valid}
 use Rattle.closure_tables.proofs.Moved.{Hand, hand-chain, search-due, search-next, search-kept, beta-due, beta-next, beta-kept, substitution-due, substitution-next, substitution-kept, function-done, ingredient-done}
 
 abbrev held : Places → Places → Tables → Configuration
 held c u t = record { capacity = c; used = u; loaded = Some (record { size = length (t .cells); state = presented t }) }
-
-abbrev idle : Places → Places → Configuration
-idle c u = record { capacity = c; used = u; loaded = None }
 
 pub loaded-some : (t : Tables) → 0 < length (t .cells) → loaded-in t ≡ Some (record { size = length (t .cells); state = presented t })
 loaded-some t h =
@@ -51,9 +45,6 @@ loaded-none t h = cond-true (eqb (length (t .cells)) 0) None (Some (record { siz
 
 held-is : (c u : Places) (t : Tables) → 0 < length (t .cells) → configured c u t ≡ held c u t
 held-is c u t h = ap (λ o. record { capacity = c; used = u; loaded = o }) (loaded-some t h)
-
-idle-is : (c u : Places) (t : Tables) → length (t .cells) ≡ 0 → configured c u t ≡ idle c u
-idle-is c u t h = ap (λ o. record { capacity = c; used = u; loaded = o }) (loaded-none t h)
 
 -- valid tables that are as full as their levels say are a sound configuration
 pub configured-sound :
@@ -117,11 +108,6 @@ pub done-as : (c u : Places) (t : Tables) → 0 < length (t .cells) → due-of (
 done-as c u t h due =
     from-held c u t (Ok Done) (configured c u t) h
     (after-of (held c u t) (configured c u t) (Ok Done) (outcome-is c u t done Done due refl) (held-is c u t h))
-
-pub empty-as : (c u : Places) (t : Tables) → length (t .cells) ≡ 0 → StepsAs (configured c u t) (Err refusal.Empty) (configured c u t)
-empty-as c u t h =
-    subst (λ x. StepsAs x (Err refusal.Empty) (configured c u t)) (sym (idle-is c u t h))
-    (after-of (idle c u) (configured c u t) (Err refusal.Empty) refl (idle-is c u t h))
 
 -- each transition, where its table has room and where it has none
 

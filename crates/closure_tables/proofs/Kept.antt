@@ -1,26 +1,24 @@
 -- What valid tables are, part by part. Assumes nothing.
-use mathlib.Core.Path.{_≡_, refl, ap, sym, subst, _∙_}
-use mathlib.Core.Bool.{Bool, true, false, cond, _&&_}
-use mathlib.Core.List.{List, [], _∷_, _++_, map, reverse}
-use Prim.Native.Nat.{ℕ, suc, _+_, _-_, _≤_, _<_}
+use mathlib.Core.Path.{_≡_, ap, sym, _∙_}
+use mathlib.Core.Bool.{true, _&&_}
+use mathlib.Core.List.{List, _++_}
+use Prim.Native.Nat.{ℕ, _≤_, _<_}
 use native.Mathlib.Omega.{arith}
 use lib.Dec.{ltb, leb, eqb}
-use lib.ListN.{length, getD, take, List·getD-append}
+use lib.ListN.{length, getD, List·getD-append}
 use borrow.Author.Tests.{ne-eqb}
 use Rattle.std.proofs.shelf.Tests.{and-parts, and-from, leb-true, le-leb, ltb-true, lt-ltb, cond-false}
 use Rattle.std.specs.declared.option.Option.{Option}
-use Rattle.std.specs.declared.option.Option.the-variants.{Some, None}
 use Rattle.term.specs.Terms.{most-nodes}
 use Rattle.abstract_machine.specs.Soundness.{SoundState, sound-state}
 use Rattle.abstract_machine.proofs.Sound.{state-true, state-test}
-use Rattle.closure_tables.specs.declared.rows.Cell.{Cell}
 use Rattle.closure_tables.specs.declared.rows.Argument.{Argument}
 use Rattle.closure_tables.specs.declared.rows.Entry.{Entry}
-use Rattle.closure_tables.specs.Tables.{blank-cell, blank-argument, blank-entry, Tables}
-use Rattle.closure_tables.specs.Presented.{height, chain-of, chain-in, piece-at, closure-of, entry-piece, presented}
+use Rattle.closure_tables.specs.Tables.{blank-cell, blank-entry, Tables}
+use Rattle.closure_tables.specs.Presented.{height, chain-of, chain-in, piece-at, closure-of, presented}
 use Rattle.closure_tables.specs.Valid.{each, cell-inside, argument-inside, entry-inside, inside, valid}
 use Rattle.closure_tables.proofs.Each.{each-here}
-use Rattle.closure_tables.proofs.Chains.{Falling, Same, chain-agree}
+use Rattle.closure_tables.proofs.Chains.{Falling, chain-agree}
 use Rattle.closure_tables.proofs.Pieces.{Onward}
 
 pub record Kept (t : Tables) : Type 0 where

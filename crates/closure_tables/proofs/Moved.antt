@@ -1,35 +1,34 @@
 -- Each transition on tables is the one of the abstract machine, and keeps them valid. Assumes nothing.
 use mathlib.Core.Path.{_≡_, refl, ap, sym, subst, _∙_}
-use mathlib.Core.Bool.{Bool, true, false, cond}
+use mathlib.Core.Bool.{true}
 use mathlib.Core.List.{List, [], _∷_, _++_, map, reverse}
-use Prim.Native.Nat.{ℕ, suc, _+_, _-_, _≤_, _<_}
+use Prim.Native.Nat.{ℕ, suc, _+_, _-_, _<_}
 use native.Mathlib.Omega.{arith}
 use lib.Dec.{ltb}
 use lib.ListN.{length, getD, take, length-append}
 use lib.Seq.{take-suc, take-length, getD-append-seam}
-use Rattle.std.proofs.shelf.Tests.{and-parts, and-from, ltb-true, lt-ltb, le-ltb, le-leb, cond-false}
-use Rattle.std.specs.declared.option.Option.{Option}
+use Rattle.std.proofs.shelf.Tests.{and-parts, and-from, ltb-true, le-ltb, le-leb, cond-false}
 use Rattle.std.specs.declared.option.Option.the-variants.{Some, None}
 use Rattle.std.specs.Finite.{nth}
 use Rattle.machine.specs.declared.outcomes.Transition.the-variants.{Beta, Substitution, Search}
-use Rattle.machine.specs.Meanings.{Due, transition, done}
-use Rattle.abstract_machine.specs.Pieces.{Piece, place, ingredient, function, application, filled, opened, outer}
-use Rattle.abstract_machine.specs.States.{State, due-at, due-of, next-of, next, entry-of}
-use Rattle.abstract_machine.specs.Soundness.{SoundState, SoundPiece}
+use Rattle.machine.specs.Meanings.{transition, done}
+use Rattle.abstract_machine.specs.Pieces.{Piece, place, ingredient, function, filled, opened, outer}
+use Rattle.abstract_machine.specs.States.{State, due-at, due-of, next-of, next}
+use Rattle.abstract_machine.specs.Soundness.{SoundState}
 use Rattle.abstract_machine.proofs.Transitions.{state-law}
 use Rattle.closure_tables.specs.declared.rows.Cell.{Cell}
 use Rattle.closure_tables.specs.declared.rows.Cell.the-variants as cell
 use Rattle.closure_tables.specs.declared.rows.Argument.{Argument}
 use Rattle.closure_tables.specs.declared.rows.Entry.{Entry}
 use Rattle.closure_tables.specs.Tables.{blank-cell, blank-argument, blank-entry, Tables}
-use Rattle.closure_tables.specs.Presented.{height, chain-of, chain-in, filled-by, place-at, cell-piece, piece-at, closure-of, entry-piece, presented}
+use Rattle.closure_tables.specs.Presented.{height, chain-of, chain-in, filled-by, cell-piece, piece-at, closure-of, entry-piece, presented}
 use Rattle.closure_tables.specs.Valid.{each, cell-inside, argument-inside, entry-inside}
 use Rattle.closure_tables.specs.Moves.{descended, entered, fetched}
 use Rattle.closure_tables.proofs.Each.{each-here, each-push, each-front, each-weaker}
 use Rattle.closure_tables.proofs.Latest.{latest-push, latest-same, length-latest, numbered-latest}
 use Rattle.closure_tables.proofs.Chains.{chain-low}
 use Rattle.closure_tables.proofs.Pieces.{piece-here, piece-opened}
-use Rattle.closure_tables.proofs.Kept.{Kept, Inside, argument-is, argument-test, argument-more, onward, entry-is, falling, chain-more, closure-more}
+use Rattle.closure_tables.proofs.Kept.{Kept, argument-is, argument-test, argument-more, onward, entry-is, falling, chain-more, closure-more}
 
 -- the cell in hand, and the chain in hand
 abbrev pub Hand : Tables → Cell → Type 0

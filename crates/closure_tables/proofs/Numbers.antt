@@ -1,6 +1,6 @@
 -- Numbers of positions. Assumes nothing.
-use mathlib.Core.Path.{_≡_, refl, ap, sym, _∙_}
-use Prim.Native.Nat.{ℕ, zero, suc, _+_, _-_, _*_, _/_, _%_, _^_, _≤_, _<_}
+use mathlib.Core.Path.{_≡_, refl, ap, _∙_}
+use Prim.Native.Nat.{ℕ, _+_, _-_, _*_, _/_, _%_, _^_, _≤_, _<_}
 use native.Mathlib.Omega.{arith}
 use lib.Dec.{ltb}
 use Rattle.std.proofs.shelf.Bits.{div-mul-add, mod-mul-add}
@@ -22,14 +22,6 @@ pub record Numbered (s : Spot) : Type 0 where
 pub front-height : (c : Option ℕ) → front (height c) ≡ c
 front-height None = refl
 front-height (Some e) = refl
-
-pub height-front : (h : ℕ) → height (front h) ≡ h
-height-front zero = refl
-height-front (suc e) = refl
-
-pub front-some : (h : ℕ) → 0 < h → front h ≡ Some (h - 1)
-front-some zero p = absurd (omega arith)
-front-some (suc e) p = let same : suc e - 1 ≡ e = omega arith in ap Some (sym same)
 
 pub spot-below : (s : Spot) → Numbered s → spot-number s < first-spine
 spot-below s n = omega (arith, n .node, n .depth, n .chain)

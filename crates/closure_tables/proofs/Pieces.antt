@@ -1,18 +1,18 @@
 -- The pieces that cells present. Assumes nothing.
-use mathlib.Core.Path.{_≡_, refl, ap, sym, subst, _∙_}
-use mathlib.Core.Bool.{Bool, true, false, cond}
-use mathlib.Core.List.{List, [], _∷_, _++_}
+use mathlib.Core.Path.{_≡_, refl, ap, sym, _∙_}
+use mathlib.Core.Bool.{true, false}
+use mathlib.Core.List.{List, _∷_}
 use Prim.Native.Nat.{ℕ, zero, suc, _+_, _-_, _≤_, _<_}
 use native.Mathlib.Omega.{arith}
 use lib.Dec.{ltb, eqb}
 use lib.ListN.{length, getD}
-use borrow.Author.Tests.{eqb-true, eqb-false, eq-eqb, ne-eqb}
-use Rattle.std.proofs.shelf.Tests.{cond-true, cond-false, and-parts, ltb-true, ltb-false, lt-ltb, le-ltb, cases-order}
+use borrow.Author.Tests.{eq-eqb, ne-eqb}
+use Rattle.std.proofs.shelf.Tests.{cond-true, cond-false, and-parts, ltb-true, lt-ltb, le-ltb, cases-order}
 use mathlib.Core.Logic.{_⊎_, inl, inr}
 use Rattle.std.specs.declared.option.Option.{Option}
 use Rattle.std.specs.declared.option.Option.the-variants.{Some, None}
 use Rattle.std.specs.Finite.{nth}
-use Rattle.abstract_machine.specs.Pieces.{Piece, place, ingredient, function, application, filled, opened}
+use Rattle.abstract_machine.specs.Pieces.{place, function, filled, opened}
 use Rattle.closure_tables.specs.declared.rows.Cell.{Cell}
 use Rattle.closure_tables.specs.declared.rows.Cell.the-variants as cell
 use Rattle.closure_tables.specs.Tables.{blank-cell}

@@ -9,7 +9,7 @@ use lib.Dec.{ltb, leb}
 use lib.ListN.{length, getD, take, length-map, length-reverse}
 use lib.Seq.{take-suc}
 use Rattle.std.proofs.shelf.Lists.{take-all, getD-map, getD-reverse}
-use Rattle.std.proofs.shelf.Tests.{and-from, and-left, and-right, cond-true, cond-false, lt-ltb, le-ltb, le-leb, lt-leb, cases-lt}
+use Rattle.std.proofs.shelf.Tests.{and-from, and-left, cond-true, cond-false, lt-ltb, le-ltb, le-leb, cases-lt}
 use Rattle.std.specs.declared.option.Option.the-variants.{Some, None}
 use Rattle.term.specs.Terms as term
 use Rattle.term.specs.Terms.{Term}
@@ -18,12 +18,11 @@ use Rattle.writer.specs.Heads.{both, headed}
 use Rattle.abstract_machine.specs.Pieces.{Piece, ingredient, plugged}
 use Rattle.abstract_machine.specs.States.{applied-to, unfolded}
 use Rattle.abstract_machine.specs.Soundness.{SoundPiece, SoundStack}
-use Rattle.closure_tables.specs.declared.positions.Position.the-variants as position
 use Rattle.closure_tables.specs.declared.rows.Argument.{Argument}
 use Rattle.closure_tables.specs.Tables.{blank-argument, Tables}
 use Rattle.closure_tables.specs.Presented.{closure-of, presented}
 use Rattle.closure_tables.specs.Valid.{argument-inside, valid}
-use Rattle.closure_tables.specs.Positions.{spine-number, spot-number, closure-spot, entry-values, position-of, term-inside, term-on-spine, term-of, term-at, root}
+use Rattle.closure_tables.specs.Positions.{spine-number, spot-number, closure-spot, entry-values, term-inside, term-on-spine, term-at, root}
 use Rattle.closure_tables.proofs.Each.{each-here}
 use Rattle.closure_tables.proofs.Latest.{length-latest}
 use Rattle.closure_tables.proofs.Kept.{Kept, Inside, kept, argument-is}
@@ -39,11 +38,6 @@ abbrev pub waiting : Tables → ℕ → Argument
 waiting t k = getD (t .stack) (length (t .stack) - 1 - k) blank-argument
 
 -- where there is none
-
-pub spine-past : (t : Tables) (k : ℕ) → length (t .stack) < k → term-on-spine t k ≡ None
-spine-past t k h =
-    cond-false (ltb 0 (length (t .cells)) && leb k (length (t .stack))) (Some (spine t k)) None
-    (and-right _ _ (lt-leb k (length (t .stack)) h))
 
 pub spine-empty : (t : Tables) (k : ℕ) → length (t .cells) ≤ 0 → term-on-spine t k ≡ None
 spine-empty t k h =
@@ -125,12 +119,6 @@ module _ (t : Tables) (k : Kept t) where
       subst (λ m. Inside (length (t .cells)) (length (t .entries)) (getD (t .stack) m blank-argument)) place (waiting-inside (i - 1) (omega arith))
 
 -- where no term stands as well
-
-pub nothing-stands : (t : Tables) (p : ℕ) → length (t .cells) ≤ 0 → term-at t p ≡ None
-nothing-stands t p none = elim (position-of p) as (λ x. term-of t x ≡ None) [
-  | position.Spine k ↦ spine-empty t k none
-  | position.Inside s ↦ node-past t s (omega arith)
-]
 
 pub spine-hand : (t : Tables) → valid t ≡ true → term-on-spine t 0 ≡ term-inside t (closure-spot (t .hand))
 spine-hand t v = elim (cases-lt 0 (length (t .cells))) [

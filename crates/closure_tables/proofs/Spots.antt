@@ -7,7 +7,7 @@ use native.Mathlib.Omega.{arith}
 use lib.Dec.{ltb}
 use lib.ListN.{length, getD}
 use Rattle.std.proofs.shelf.Lists.{getD-default}
-use Rattle.std.proofs.shelf.Tests.{and-parts, and-from, and-left, and-right, cond-true, cond-false, ltb-true, lt-ltb, le-ltb, le-leb, lt-leb}
+use Rattle.std.proofs.shelf.Tests.{and-parts, and-from, and-left, cond-true, cond-false, ltb-true, lt-ltb, le-ltb, le-leb}
 use Rattle.std.specs.Options.{mapped}
 use Rattle.std.specs.declared.option.Option.{Option}
 use Rattle.std.specs.declared.option.Option.the-variants.{Some, None}
@@ -72,11 +72,6 @@ pub node-past : (t : Tables) (s : Spot) → length (t .cells) ≤ s .node → te
 node-past t s h =
     cond-false (spot-inside t s) (plugged-under (s .depth) (entry-values t) (spot-piece t s)) None
     (and-left _ _ (le-ltb (s .node) (length (t .cells)) h))
-
-pub chain-past : (t : Tables) (s : Spot) → length (t .entries) < height (s .chain) → term-inside t s ≡ None
-chain-past t s h =
-    cond-false (spot-inside t s) (plugged-under (s .depth) (entry-values t) (spot-piece t s)) None
-    (and-right _ _ (lt-leb (height (s .chain)) (length (t .entries)) h))
 
 term-is : (t : Tables) (s : Spot) → s .node < length (t .cells) → height (s .chain) ≤ length (t .entries) → term-inside t s ≡ plugged-under (s .depth) (entry-values t) (spot-piece t s)
 term-is t s hn hc =

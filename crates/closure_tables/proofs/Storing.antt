@@ -1,13 +1,12 @@
 -- The table that is handed a term's nodes holds the term's cells. Assumes nothing.
 use mathlib.Core.Path.{_≡_, refl, ap, _∙_}
-use mathlib.Core.Logic.{inl, inr}
 use mathlib.Core.List.{List, [], _∷_, _++_, append-assoc}
 use Prim.Native.Nat.{ℕ, zero, suc, _+_, _-_, _≤_, _<_, min}
 use native.Mathlib.Omega.{arith}
 use lib.Dec.{ltb}
 use lib.ListN.{length, set, take, length-append, length-set}
 use Rattle.std.proofs.shelf.Lists.{set-at, length-push, take-more-set}
-use Rattle.std.proofs.shelf.Tests.{cond-true, cond-false, lt-ltb, le-ltb, cases-lt}
+use Rattle.std.proofs.shelf.Tests.{cond-true, lt-ltb}
 use Rattle.std.proofs.iter.runs.Lists.{folded-append}
 use Rattle.std.specs.Iters.{folded}
 use Rattle.node.specs.declared.nodes.Part.{Part}
@@ -32,10 +31,6 @@ pub stored : (r : Received) (l : Located) → 0 < r .room → received r l ≡ r
 stored r l h =
     cond-true (ltb 0 (r .room)) (holding (joined (l .part) (l .number) (r .cells) ++ cell-of (l .node) ∷ []) (r .room - 1)) r (lt-ltb 0 (r .room) h)
 
-pub left-out : (r : Received) (l : Located) → r .room ≡ 0 → received r l ≡ r
-left-out r l h =
-    cond-false (ltb 0 (r .room)) (holding (joined (l .part) (l .number) (r .cells) ++ cell-of (l .node) ∷ []) (r .room - 1)) r (le-ltb 0 (r .room) (omega arith))
-
 length-joined : (p : Part) (n : ℕ) (xs : List Cell) → length (joined p n xs) ≡ length xs
 length-joined Root n xs = refl
 length-joined (Left a) n xs = refl
@@ -43,19 +38,6 @@ length-joined (Right a) n xs = length-set xs a (cell.Application n)
 length-joined (Body f) n xs = refl
 
 -- the places in use and the room make up the table, however many nodes are handed over
-
-pub received-keeps : (r : Received) (l : Located) → length (received r l .cells) + received r l .room ≡ length (r .cells) + r .room
-received-keeps r l = elim (cases-lt 0 (r .room)) [
-  | inl some ↦
-      let ys = joined (l .part) (l .number) (r .cells) in
-      ap (λ q. length (q .cells) + q .room) (stored r l some)
-      ∙ omega (arith, length-push ys (cell-of (l .node)), length-joined (l .part) (l .number) (r .cells))
-  | inr none ↦ ap (λ q. length (q .cells) + q .room) (left-out r l (omega arith))
-]
-
-pub folded-keeps : (ls : List Located) (r : Received) → length (folded received r ls .cells) + folded received r ls .room ≡ length (r .cells) + r .room
-folded-keeps [] r = refl
-folded-keeps (l ∷ ls) r = folded-keeps ls (received r l) ∙ received-keeps r l
 
 -- the cells in use of a longer list
 

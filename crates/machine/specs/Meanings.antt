@@ -2,7 +2,7 @@
 use mathlib.Core.Path.{_≡_}
 use Prim.Native.Nat.{ℕ, _≤_, _<_}
 use Rattle.std.specs.declared.option.Option.{Option}
-use Rattle.std.specs.declared.option.Option.the-variants.{Some, None}
+use Rattle.std.specs.declared.option.Option.the-variants.{Some}
 use Rattle.tables.specs.Limits.{node-limit, entry-limit, stack-limit}
 use Rattle.term.specs.Terms.{Term, Closed}
 use Rattle.term.specs.Reduction.{Step, Normal}

@@ -96,7 +96,10 @@ fn print_counts(rt: &LibcRuntime, code: &[u8]) -> io::Result<()> {
 }
 
 fn print_recipe(rt: &LibcRuntime) -> io::Result<()> {
-    println!(rt, "The house dough: butter, worked into a plain dough twice")?;
+    println!(
+        rt,
+        "The house dough: butter, worked into a plain dough twice"
+    )?;
     print_code(rt, &HOUSE_DOUGH)?;
     print_verdict(rt, &HOUSE_DOUGH)?;
     print_counts(rt, &HOUSE_DOUGH)

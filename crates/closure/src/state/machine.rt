@@ -1,6 +1,6 @@
 ghost use mathlib.Core.Path.{_≡_};
-ghost use Rattle.machine.specs.Rules.{AfterStart, start-of, emptied, outcome-due, AfterStep};
-ghost use Rattle.abstract_machine.specs.Configurations.{vacated, started, stepped};
+ghost use Rattle.machine.specs.Rules.{AfterStart, emptied, outcome-due, AfterStep, write-of};
+ghost use Rattle.abstract_machine.specs.Configurations.{explained, vacated, started, stepped};
 ghost use Rattle.closure_tables.specs.Presented.{no-price};
 ghost use Rattle.closure.specs.Views.{configuration, meaning};
 use crate::state::Closure;
@@ -8,8 +8,8 @@ use machine::Machine;
 use machine::MachineFault;
 use machine::Outcome;
 
-// Each call promises, beside the rules of a machine, that it is the abstract machine's: its answer and the configuration that it leaves
-// follow from the configuration before, which is what lies below the levels.
+// Beside the rules of a machine, each call promises that it is the abstract machine's: its answer and the configuration that it leaves
+// follow from the configuration before, which is what lies below the levels, and from the arguments.
 pub impl Machine for Closure as ClosureMachine {
     const KIND: u8 = 2;
 
@@ -35,7 +35,9 @@ pub impl Machine for Closure as ClosureMachine {
         self.vacate();
     }
 
-    fn due(&self) -> Result<Outcome, MachineFault> {
+    fn due(&self) -> Result<Outcome, MachineFault>
+        ensures { λ r. ⌜ r ≡ outcome-due (explained no-price (configuration (now (self .entry)))) ⌝ }
+    {
         self.outcome()
     }
 
@@ -46,7 +48,11 @@ pub impl Machine for Closure as ClosureMachine {
         self.advance()
     }
 
-    fn write(&self, output: &mut [u8], scratch: &mut [u64]) -> Result<usize, MachineFault> {
+    fn write(&self, output: &mut [u8], scratch: &mut [u64]) -> Result<usize, MachineFault>
+        ensures answer { λ r. ⌜ r ≡ write-of (explained no-price (configuration (now (self .entry)))) (now (output .entry)) (now (scratch .entry)) .answer ⌝ }
+        ensures output { λ _. ⌜ now (output .exit) ≡ write-of (explained no-price (configuration (now (self .entry)))) (now (output .entry)) (now (scratch .entry)) .output ⌝ }
+        ensures scratch { λ _. ⌜ now (scratch .exit) ≡ write-of (explained no-price (configuration (now (self .entry)))) (now (output .entry)) (now (scratch .entry)) .scratch ⌝ }
+    {
         self.write_standing(output, scratch)
     }
 }

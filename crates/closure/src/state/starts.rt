@@ -3,7 +3,7 @@ ghost use Rattle.std.specs.Of.Vec.{vec-len};
 ghost use Rattle.machine.specs.Rules.{start-of};
 ghost use Rattle.abstract_machine.specs.Configurations.{vacated, started};
 ghost use Rattle.closure_tables.specs.Presented.{no-price};
-ghost use Rattle.closure.specs.Views.{configuration, meaning, unused};
+ghost use Rattle.closure.specs.Views.{configuration, meaning, as-made};
 use crate::state::Closure;
 use crate::state::Nodes;
 use crate::state::storing::NodesReceiver;
@@ -19,7 +19,7 @@ use tables::Levels;
 impl Closure {
     // Over tables of those lengths, which it never changes; what they hold does not matter.
     pub fn new(cells: Vec<Cell>, entries: Vec<Entry>, stack: Vec<Argument>) -> Self
-        ensures { λ r. ⌜ configuration r ≡ unused (vec-len cells) (vec-len entries) (vec-len stack) ⌝ }
+        ensures { λ r. ⌜ configuration r ≡ as-made (vec-len cells) (vec-len entries) (vec-len stack) ⌝ }
     {
         let levels = Levels::over(cells.len(), entries.len(), stack.len());
         Closure {

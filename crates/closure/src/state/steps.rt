@@ -14,7 +14,7 @@ use machine::Table;
 use machine::Transition;
 
 impl Closure {
-    // Search: stacks the right side and goes left.
+    // Search: the right side waits, the left side is next.
     fn descend(&mut self, right: u16) -> Outcome
         requires standing { ⌜ 0 < now self .levels .nodes .used ⌝ }
         requires hand { ⌜ Hand (now self) (Application right) ⌝ }

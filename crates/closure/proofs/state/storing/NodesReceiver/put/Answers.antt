@@ -1,6 +1,5 @@
 use mathlib.Core.Path.{_≡_, ap}
 use native.Mathlib.Omega.{arith}
-use Rattle.std.specs.Of.Vec.{vec-items, vec-len}
 use Rattle.closure.proofs.Storing.{stored-more}
 use Rattle.closure.proofs.state.storing.NodesReceiver.put.Needs as need
 
