@@ -23,7 +23,7 @@ use Rattle.machine.specs.Rules.{sized, start-of}
 use Rattle.abstract_machine.specs.States.{initial}
 use Rattle.abstract_machine.specs.Configurations.{explained, holding, after-start, started}
 use Rattle.tables.specs.declared.levels.Levels.{Levels}
-use Rattle.tables.specs.Usages.{usages, cleared}
+use Rattle.tables.specs.Usages.{usages, freed}
 use Rattle.closure_tables.specs.Tables.{blank-argument, Tables, below}
 use Rattle.closure_tables.specs.Presented.{loaded-in, configured, no-price}
 use Rattle.closure_tables.specs.Valid.{valid}
@@ -42,10 +42,10 @@ folded-storing : (s : Stored) (ls : List Located) → folded storing s ls ≡ re
 folded-storing s [] = refl
 folded-storing s (l ∷ ls) = folded-storing (storing s l) ls
 
--- a code was read into the tables of m, on which nothing stood, with their levels cleared
+-- a code was read into the tables of m, on which nothing stood, with their levels freed
 pub record Reading (m : Closure) (low : Levels) (n : Nodes) (l : Levels) (bs : List ℕ) : Type 0 where
   pub idle : m .levels .nodes .used ≡ 0
-  pub cleared : usages low ≡ cleared (usages (m .levels))
+  pub freed : usages low ≡ freed (usages (m .levels))
   pub held : stored-in n l ≡ folded storing (stored-in (m .nodes) low) (handed-over bs)
   pub law : ReadingLaw bs
 
@@ -62,18 +62,18 @@ pub record Laid (m : Closure) (n : Nodes) (l : Levels) (bs : List ℕ) : Type 0 
 pub laid : (m : Closure) (low : Levels) (n : Nodes) (l : Levels) (bs : List ℕ) → Reading m low n l bs → Laid m n l bs
 laid m low n l bs r =
     let end = r .held ∙ folded-storing (stored-in (m .nodes) low) (handed-over bs) in
-    let none : low .nodes .used ≡ 0 = ap (λ u. u .nodes .used) (r .cleared) in
-    let capacity : low .nodes .capacity ≡ m .levels .nodes .capacity = ap (λ u. u .nodes .capacity) (r .cleared) in
+    let none : low .nodes .used ≡ 0 = ap (λ u. u .nodes .used) (r .freed) in
+    let capacity : low .nodes .capacity ≡ m .levels .nodes .capacity = ap (λ u. u .nodes .capacity) (r .freed) in
     let room : min (low .nodes .capacity) (vec-len (m .nodes .cells)) - low .nodes .used ≡ m .levels .nodes .capacity = omega (arith, m .«nodes_fit») in
     let begun : stored-in (m .nodes) low .code ≡ nothing-received (m .levels .nodes .capacity)
     = let front : take (low .nodes .used) (vec-items (m .nodes .cells)) ≡ [] = ap (λ k. take k (vec-items (m .nodes .cells))) none in cc in
     record {
       long = ap (λ s. s .long) end;
       nodes = ap (λ s. s .capacity) end ∙ capacity;
-      entries = ap (λ s. s .entries .capacity) end ∙ ap (λ u. u .entries .capacity) (r .cleared);
-      stack = ap (λ s. s .stack .capacity) end ∙ ap (λ u. u .stack .capacity) (r .cleared);
-      no-entries = ap (λ s. s .entries .used) end ∙ ap (λ u. u .entries .used) (r .cleared);
-      no-stack = ap (λ s. s .stack .used) end ∙ ap (λ u. u .stack .used) (r .cleared);
+      entries = ap (λ s. s .entries .capacity) end ∙ ap (λ u. u .entries .capacity) (r .freed);
+      stack = ap (λ s. s .stack .capacity) end ∙ ap (λ u. u .stack .capacity) (r .freed);
+      no-entries = ap (λ s. s .entries .used) end ∙ ap (λ u. u .entries .used) (r .freed);
+      no-stack = ap (λ s. s .stack .used) end ∙ ap (λ u. u .stack .used) (r .freed);
       cells = ap (λ s. s .code .cells) end ∙ ap (λ c. folded received c (handed-over bs) .cells) begun;
     }
 

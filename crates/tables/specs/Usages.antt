@@ -51,5 +51,5 @@ abbrev pub usages-over : ℕ → ℕ → ℕ → Usages
 usages-over nodes entries stack =
     record { nodes = unused (capacity-of nodes node-limit); entries = unused (capacity-of entries entry-limit); stack = unused (capacity-of stack stack-limit) }
 
-abbrev pub cleared : Usages → Usages
-cleared u = record { nodes = unused (u .nodes .capacity); entries = unused (u .entries .capacity); stack = unused (u .stack .capacity) }
+abbrev pub freed : Usages → Usages
+freed u = record { nodes = unused (u .nodes .capacity); entries = unused (u .entries .capacity); stack = unused (u .stack .capacity) }

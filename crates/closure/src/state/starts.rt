@@ -35,7 +35,7 @@ impl Closure {
     pub(crate) fn vacate(&mut self)
         ensures { λ _. ⌜ configuration (now (self .exit)) ≡ vacated (configuration (now (self .entry))) ⌝ }
     {
-        self.levels.clear();
+        self.levels.reset();
     }
 
     // Reads a code into the table of nodes; however that is refused, the levels are put back.
@@ -49,7 +49,7 @@ impl Closure {
         let capacity = self.levels.nodes.capacity();
         let guard = Guard::over(&mut self.levels);
         let levels = &mut *guard.levels;
-        levels.clear();
+        levels.reset();
         let size = read(&mut self.nodes, levels, code)?;
         if size as usize > capacity {
             return Err(MachineFault::TooLarge);

@@ -47,7 +47,7 @@ impl Level {
         Some(self.used)
     }
 
-    pub(crate) fn clear(&mut self)
+    pub(crate) fn reset(&mut self)
         ensures { λ _. ⌜ usage (now (self .exit)) ≡ unused (now (self .entry) .capacity) ⌝ }
     {
         self.used = 0;

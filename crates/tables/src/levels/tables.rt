@@ -1,5 +1,5 @@
 ghost use mathlib.Core.Path.{_≡_};
-ghost use Rattle.tables.specs.Usages.{usages, usages-over, cleared};
+ghost use Rattle.tables.specs.Usages.{usages, usages-over, freed};
 use crate::levels::Level;
 use crate::levels::Levels;
 
@@ -22,11 +22,11 @@ impl Levels {
     }
 
     // Every place is free again.
-    pub fn clear(&mut self)
-        ensures { λ _. ⌜ usages (now (self .exit)) ≡ cleared (usages (now (self .entry))) ⌝ }
+    pub fn reset(&mut self)
+        ensures { λ _. ⌜ usages (now (self .exit)) ≡ freed (usages (now (self .entry))) ⌝ }
     {
-        self.nodes.clear();
-        self.entries.clear();
-        self.stack.clear();
+        self.nodes.reset();
+        self.entries.reset();
+        self.stack.reset();
     }
 }
