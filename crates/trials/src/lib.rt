@@ -8,8 +8,6 @@ mod handing;
 #[cfg(test)]
 mod limits;
 #[cfg(test)]
-mod machines;
-#[cfg(test)]
 mod storing;
 #[cfg(test)]
 mod writing;
