@@ -1,4 +1,5 @@
 -- What a writer of codes answers and leaves in its buffers. Assumes nothing.
+use mathlib.Core.Path.{_≡_}
 use mathlib.Core.Bool.{cond}
 use mathlib.Core.List.{List, _++_}
 use Prim.Native.Nat.{ℕ}
@@ -17,6 +18,12 @@ pub record Written : Type 0 where
   pub answer : Result ℕ MachineFault
   pub output : List ℕ
   pub scratch : List ℕ
+
+-- a write comes to w: that is its answer r, and o and s are its buffers afterwards
+pub record AfterWrite (w : Written) (r : Result ℕ MachineFault) (o s : List ℕ) : Type 0 where
+  pub answer : r ≡ w .answer
+  pub output : o ≡ w .output
+  pub scratch : s ≡ w .scratch
 
 -- a refusal that leaves the buffers as they are
 abbrev pub left-alone : MachineFault → List ℕ → List ℕ → Written

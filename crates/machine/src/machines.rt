@@ -1,6 +1,7 @@
 ghost use mathlib.Core.Path.{_≡_};
 ghost use Prim.Native.Nat.{ℕ};
 ghost use Rattle.machine.specs.Meanings.{Meaning, Sound};
+ghost use Rattle.machine.specs.Writing.{AfterWrite};
 ghost use Rattle.machine.specs.Rules.{AfterStart, emptied, outcome-due, AfterStep, write-of};
 use crate::faults::MachineFault;
 use crate::outcomes::Outcome;
@@ -38,7 +39,5 @@ pub trait Machine {
 
     // Writes the code of the term that stands to the front of the output; answers its length.
     fn write(&self, output: &mut [u8], scratch: &mut [u64]) -> Result<usize, MachineFault>
-        ensures answer { λ r. ⌜ r ≡ write-of (meaning (now (self .entry))) (now (output .entry)) (now (scratch .entry)) .answer ⌝ }
-        ensures output { λ _. ⌜ now (output .exit) ≡ write-of (meaning (now (self .entry))) (now (output .entry)) (now (scratch .entry)) .output ⌝ }
-        ensures scratch { λ _. ⌜ now (scratch .exit) ≡ write-of (meaning (now (self .entry))) (now (output .entry)) (now (scratch .entry)) .scratch ⌝ };
+        ensures { λ r. ⌜ AfterWrite (write-of (meaning (now (self .entry))) (now (output .entry)) (now (scratch .entry))) r (now (output .exit)) (now (scratch .exit)) ⌝ };
 }

@@ -1,7 +1,6 @@
-ghost use mathlib.Core.Path.{_≡_};
 ghost use Prim.Native.Nat.{_≤_, _<_};
 ghost use lib.ListN.{length};
-ghost use Rattle.machine.specs.Writing.{written};
+ghost use Rattle.machine.specs.Writing.{written, AfterWrite};
 ghost use Rattle.writer.specs.Walks.{own, AfterPut, AfterAdvance, AfterWalk};
 use crate::heads::Head;
 use crate::unfolding::Unfolding;
@@ -82,9 +81,7 @@ pub fn write_code<U: Unfolding>(
     output: &mut [u8],
     scratch: &mut [u64],
 ) -> Result<usize, MachineFault>
-    ensures answer { λ r. ⌜ r ≡ written (term (now (terms .entry)) root) (now (output .entry)) (now (scratch .entry)) .answer ⌝ }
-    ensures output { λ _. ⌜ now (output .exit) ≡ written (term (now (terms .entry)) root) (now (output .entry)) (now (scratch .entry)) .output ⌝ }
-    ensures scratch { λ _. ⌜ now (scratch .exit) ≡ written (term (now (terms .entry)) root) (now (output .entry)) (now (scratch .entry)) .scratch ⌝ }
+    ensures { λ r. ⌜ AfterWrite (written (term (now (terms .entry)) root) (now (output .entry)) (now (scratch .entry))) r (now (output .exit)) (now (scratch .exit)) ⌝ }
 {
     if scratch.len() < output.len() {
         return Err(MachineFault::ShortScratch);

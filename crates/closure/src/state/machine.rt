@@ -1,5 +1,6 @@
 ghost use mathlib.Core.Path.{_≡_};
 ghost use Rattle.machine.specs.Rules.{AfterStart, emptied, outcome-due, AfterStep, write-of};
+ghost use Rattle.machine.specs.Writing.{AfterWrite};
 ghost use Rattle.abstract_machine.specs.Configurations.{explained, vacated, started, stepped};
 ghost use Rattle.closure_tables.specs.Presented.{no-price};
 ghost use Rattle.closure.specs.Views.{configuration, meaning};
@@ -49,9 +50,7 @@ pub impl Machine for Closure as ClosureMachine {
     }
 
     fn write(&self, output: &mut [u8], scratch: &mut [u64]) -> Result<usize, MachineFault>
-        ensures answer { λ r. ⌜ r ≡ write-of (explained no-price (configuration (now (self .entry)))) (now (output .entry)) (now (scratch .entry)) .answer ⌝ }
-        ensures output { λ _. ⌜ now (output .exit) ≡ write-of (explained no-price (configuration (now (self .entry)))) (now (output .entry)) (now (scratch .entry)) .output ⌝ }
-        ensures scratch { λ _. ⌜ now (scratch .exit) ≡ write-of (explained no-price (configuration (now (self .entry)))) (now (output .entry)) (now (scratch .entry)) .scratch ⌝ }
+        ensures { λ r. ⌜ AfterWrite (write-of (explained no-price (configuration (now (self .entry)))) (now (output .entry)) (now (scratch .entry))) r (now (output .exit)) (now (scratch .exit)) ⌝ }
     {
         self.write_standing(output, scratch)
     }

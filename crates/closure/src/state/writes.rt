@@ -1,5 +1,5 @@
-ghost use mathlib.Core.Path.{_≡_};
 ghost use Rattle.machine.specs.Rules.{write-of};
+ghost use Rattle.machine.specs.Writing.{AfterWrite};
 ghost use Rattle.closure.specs.Views.{meaning};
 use crate::state::Closure;
 use closure_view::View;
@@ -14,9 +14,7 @@ impl Closure {
         output: &mut [u8],
         scratch: &mut [u64],
     ) -> Result<usize, MachineFault>
-        ensures answer { λ r. ⌜ r ≡ write-of (meaning (now (self .entry))) (now (output .entry)) (now (scratch .entry)) .answer ⌝ }
-        ensures output { λ _. ⌜ now (output .exit) ≡ write-of (meaning (now (self .entry))) (now (output .entry)) (now (scratch .entry)) .output ⌝ }
-        ensures scratch { λ _. ⌜ now (scratch .exit) ≡ write-of (meaning (now (self .entry))) (now (output .entry)) (now (scratch .entry)) .scratch ⌝ }
+        ensures { λ r. ⌜ AfterWrite (write-of (meaning (now (self .entry))) (now (output .entry)) (now (scratch .entry))) r (now (output .exit)) (now (scratch .exit)) ⌝ }
     {
         if self.levels.nodes.used() == 0 {
             return Err(MachineFault::Empty);
