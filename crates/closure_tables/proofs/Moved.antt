@@ -7,6 +7,7 @@ use native.Mathlib.Omega.{arith}
 use lib.Dec.{ltb}
 use lib.ListN.{length, getD, take, length-append}
 use lib.Seq.{take-suc, take-length, getD-append-seam}
+use Rattle.std.proofs.shelf.Lists.{nil-from-length}
 use Rattle.std.proofs.shelf.Tests.{and-parts, and-from, ltb-true, le-ltb, le-leb, cond-false}
 use Rattle.std.specs.declared.option.Option.the-variants.{Some, None}
 use Rattle.std.specs.Finite.{nth}
@@ -249,11 +250,7 @@ substitution-kept t k j e is found =
 -- done
 
 pub function-done : (t : Tables) → Kept t → Hand t cell.Function → length (t .stack) ≡ 0 → due-of (presented t) ≡ done
-function-done t k is none = due-is t _ (hand-is t k cell.Function is) ∙ ap (λ xs. due-at (function (part t 1 (suc (t .hand .node)))) (map (closure-of (t .cells) (t .entries)) (reverse xs))) (nothing (t .stack) none)
-  where
-    nothing : {X : Type 0} (xs : List X) → length xs ≡ 0 → xs ≡ []
-    nothing [] e = refl
-    nothing (x ∷ xs) e = absurd (omega arith)
+function-done t k is none = due-is t _ (hand-is t k cell.Function is) ∙ ap (λ xs. due-at (function (part t 1 (suc (t .hand .node)))) (map (closure-of (t .cells) (t .entries)) (reverse xs))) (nil-from-length (t .stack) none)
 
 pub ingredient-done : (t : Tables) → Kept t → (j : ℕ) → Hand t (cell.Ingredient j) → due-of (presented t) ≡ done
 ingredient-done t k j is = due-is t _ (hand-is t k (cell.Ingredient j) is)
