@@ -1,4 +1,6 @@
 // The abstract machine that stands behind the real ones is a definition of specs/; here stand its laws.
+#![tactic(auto)]
+
 ghost use Rattle.abstract_machine.specs.Law.{MachineLaw, ObeysRules};
 
 // Search and substitution keep the term, β is one weak head step of it, what is done is normal.

@@ -1,4 +1,6 @@
 // A look at the closure machine's tables: the standing term, position by position.
+#![tactic(auto)]
+
 mod heads;
 mod links;
 mod looks;

@@ -1,4 +1,6 @@
 // The limits that follow from the rules of a machine. What they speak of are definitions of specs/; here stand the laws.
+#![tactic(auto)]
+
 ghost use Rattle.limits.specs.Counts.{Triangles};
 ghost use Rattle.limits.specs.Limits.{LimitsOfRuns, EnoughPlaces};
 ghost use Rattle.limits.specs.Runs.{RunsGrow};

@@ -1,4 +1,6 @@
 // The interface of a machine: what it means, its calls, and their refusals. The rules are definitions of specs/.
+#![tactic(auto)]
+
 mod faults;
 mod machines;
 mod outcomes;

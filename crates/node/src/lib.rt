@@ -1,4 +1,6 @@
 // One node of a code: how bytes spell it, the checks at it, the faults, and what a reading hands over.
+#![tactic(auto)]
+
 mod checks;
 mod faults;
 mod nodes;

@@ -1,4 +1,6 @@
 // Reads codes: one reading for any receiver of nodes, and the count of an ingredient.
+#![tactic(auto)]
+
 mod counter;
 mod counts;
 mod frontier;

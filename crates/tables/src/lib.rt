@@ -1,4 +1,6 @@
 // The levels of a machine's three tables, and a guard that restores them.
+#![tactic(auto)]
+
 mod guard;
 mod levels;
 

@@ -1,4 +1,6 @@
 // Terms, their codes and weak head reduction are definitions of specs/; here stand the laws of the reduction.
+#![tactic(auto)]
+
 ghost use Rattle.term.specs.Reduction.{FillsItsPlace, TakesInTurn, AtMostOneStep, NormalOrSteps, StepKeepsClosed};
 
 // Filling a place puts the term there, and changes nothing else.

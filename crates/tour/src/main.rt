@@ -1,4 +1,6 @@
 // Takes a recipe of a real bakery through everything there is, and prints what happens.
+#![tactic(auto)]
+
 use closure::Closure;
 use closure_tables::{Argument, Cell, Entry};
 use machine::{Machine, MachineFault, Outcome};

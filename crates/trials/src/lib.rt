@@ -1,4 +1,6 @@
 // Trials of the libraries on codes with known ends. The crate has nothing but tests.
+#![tactic(auto)]
+
 #[cfg(test)]
 mod codes;
 #[cfg(test)]

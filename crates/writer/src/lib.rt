@@ -1,4 +1,6 @@
 // The writer of codes: one text for every machine whose terms can be looked at position by position.
+#![tactic(auto)]
+
 mod heads;
 mod unfolding;
 mod writes;
