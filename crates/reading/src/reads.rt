@@ -26,7 +26,7 @@ pub fn read<R: Receiver>(
     code: &[u8],
 ) -> Result<u16, Fault>
     ensures answer { result ≡ told (verdict code.now) }
-    ensures held { held receiver.new beside.new ≡ fold more (held receiver.old beside.old) (handed_over code.now) }
+    ensures held { R.held receiver.new beside.new ≡ fold R.more (R.held receiver.old beside.old) (handed_over code.now) }
     ensures law { ReadingLaw code.now }
 {
     let mut frontier = Frontier::new();

@@ -60,7 +60,7 @@ fn advance(scratch: &mut [u64], pending: &mut usize, head: Head) -> Option<u64>
 // Writes the code of the term at the root to the front of the output; answers its length, if it fits.
 fn walk<U: Unfolding>(terms: &U, root: u64, output: &mut [u8], scratch: &mut [u64]) -> Option<usize>
     requires { length output.old ≤ length scratch.old }
-    ensures { AfterWalk (term terms.now root) output.old result output.new }
+    ensures { AfterWalk (U.term terms.now root) output.old result output.new }
 {
     let mut end = 0;
     let mut pending = 0;
@@ -81,7 +81,7 @@ pub fn write_code<U: Unfolding>(
     output: &mut [u8],
     scratch: &mut [u64],
 ) -> Result<usize, MachineFault>
-    ensures { AfterWrite (written (term terms.now root) output.old scratch.old) result output.new scratch.new }
+    ensures { AfterWrite (written (U.term terms.now root) output.old scratch.old) result output.new scratch.new }
 {
     if scratch.len() < output.len() {
         return Err(MachineFault::ShortScratch);

@@ -14,31 +14,31 @@ reading c = record {
   law = c.read.ensures.law;
 }
 
-pub invariant-of-self : goal.invariant-of-self
-invariant-of-self c =
-    let r = starts.restored c.args.self.now c.reset.new.self c.read.new.receiver c.read.new.beside c.args.code.now c.drop-guard.new.self.0 (reading (goal.at.invariant-of-self c).After-read) (c.drop-guard.ensures ∙ c.over-guard.ensures.saved) in
+pub invariant_of-self : goal.invariant_of-self
+invariant_of-self c =
+    let r = starts.restored c.args.self.now c.reset.new.self c.read.new.receiver c.read.new.beside c.args.code.now c.drop-guard.new.self.0 (reading (goal.at.invariant_of-self c).After-read) (c.drop-guard.ensures ∙ c.over-guard.ensures.saved) in
     (r.nodes, (r.entries, (r.stack, (r.kept, tt))))
 
-pub invariant-of-self-then-size-capacity : goal.invariant-of-self-then-size-capacity
-invariant-of-self-then-size-capacity c =
-    let r = starts.restored c.args.self.now c.reset.new.self c.read.new.receiver c.read.new.beside c.args.code.now c.drop-guard-then-size-capacity.new.self.0 (reading (goal.at.invariant-of-self-then-size-capacity c).After-read) (c.drop-guard-then-size-capacity.ensures ∙ c.over-guard.ensures.saved) in
+pub invariant_of-self-then-size-capacity : goal.invariant_of-self-then-size-capacity
+invariant_of-self-then-size-capacity c =
+    let r = starts.restored c.args.self.now c.reset.new.self c.read.new.receiver c.read.new.beside c.args.code.now c.drop-guard-then-size-capacity.new.self.0 (reading (goal.at.invariant_of-self-then-size-capacity c).After-read) (c.drop-guard-then-size-capacity.ensures ∙ c.over-guard.ensures.saved) in
     (r.nodes, (r.entries, (r.stack, (r.kept, tt))))
 
 -- what is kept is what the reading left
 kept : (c : After-read) (l : Levels) → l ≡ c.read.new.beside → Reading c.args.self.now c.reset.new.self c.read.new.receiver l c.args.code.now
 kept c l is = subst (λ x. Reading c.args.self.now c.reset.new.self c.read.new.receiver x c.args.code.now) (sym is) (reading c)
 
-pub invariant-of-self-2 : goal.invariant-of-self-2
-invariant-of-self-2 c =
+pub invariant_of-self-2 : goal.invariant_of-self-2
+invariant_of-self-2 c =
     let m = c.args.self.now in
     let l = c.keep.new.self.0 in
-    let r = kept (goal.at.invariant-of-self-2 c).After-read l c.keep.ensures in
+    let r = kept (goal.at.invariant_of-self-2 c).After-read l c.keep.ensures in
     let lay = starts.laid m c.reset.new.self c.read.new.receiver l c.args.code.now r in
-    let b = starts.begun m c.reset.new.self c.read.new.receiver l c.args.code.now c.in-ok-size.size r c.in-ok-size.ensures.answer (omega arith) in
+    let b = starts.begun m c.reset.new.self c.read.new.receiver l c.args.code.now c.in_ok-size.size r c.in_ok-size.ensures.answer (omega arith) in
     (omega (arith, lay.nodes, lay.long, m.nodes_fit), (omega (arith, lay.entries, m.entries_fit), (omega (arith, lay.stack, m.stack_fit), (b.kept, tt))))
 
 pub returns : goal.returns
 returns c =
     let l = c.keep.new.self.0 in
-    let b = starts.begun c.args.self.now c.reset.new.self c.read.new.receiver l c.args.code.now c.in-ok-size.size (kept (goal.at.returns c).After-read l c.keep.ensures) c.in-ok-size.ensures.answer (omega arith) in
+    let b = starts.begun c.args.self.now c.reset.new.self c.read.new.receiver l c.args.code.now c.in_ok-size.size (kept (goal.at.returns c).After-read l c.keep.ensures) c.in_ok-size.ensures.answer (omega arith) in
     record { answer = b.answer; after = b.after }

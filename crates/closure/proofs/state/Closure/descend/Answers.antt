@@ -2,12 +2,12 @@ use Rattle.closure.specs.Steps as steps
 use Rattle.closure.proofs.state.Closure.descend.Goals as goal
 use Rattle.std.proofs.Common.{arith}
 
-pub returns-in-default : goal.returns-in-default
-returns-in-default c =
-    steps.search_full c.args.self.now c.take.new.self c.args.right c.requires.standing c.requires.hand c.in-default.ensures.place c.take.ensures.level
+pub returns-in_default : goal.returns-in_default
+returns-in_default c =
+    steps.search_full c.args.self.now c.take.new.self c.args.right c.requires.standing c.requires.hand c.in_default.ensures.place c.take.ensures.level
 
-pub invariant-of-self-2 : goal.invariant-of-self-2
-invariant-of-self-2 c =
+pub invariant_of-self-2 : goal.invariant_of-self-2
+invariant_of-self-2 c =
     let m = c.args.self.now in
     let k = steps.search_keeps m c.take.new.self c.in-Some.at c.args.right c.requires.standing c.requires.hand c.in-Some.ensures.place c.take.ensures.level in
     (m.nodes_fit, (m.entries_fit, (omega (arith, k.0, m.stack_fit), (k.1, tt))))

@@ -6,12 +6,12 @@ use Rattle.closure.proofs.state.Closure.enter.Goals as goal
 pub returns-then-used-eq0 : goal.returns-then-used-eq0
 returns-then-used-eq0 c = steps.beta_done c.args.self.now c.requires.standing c.requires.hand (omega arith)
 
-pub returns-in-default : goal.returns-in-default
-returns-in-default c =
-    steps.beta_full c.args.self.now c.take.new.self c.requires.standing c.requires.hand (omega arith) c.in-default.ensures.place c.take.ensures.level
+pub returns-in_default : goal.returns-in_default
+returns-in_default c =
+    steps.beta_full c.args.self.now c.take.new.self c.requires.standing c.requires.hand (omega arith) c.in_default.ensures.place c.take.ensures.level
 
-pub invariant-of-self-3 : goal.invariant-of-self-3
-invariant-of-self-3 c =
+pub invariant_of-self-3 : goal.invariant_of-self-3
+invariant_of-self-3 c =
     let m = c.args.self.now in
     let p : Popping m c.take.new.self c.release.new.self c.in-Some.entry c.in-Some-release.top c.index.result.now
     = record { entry = c.in-Some.ensures.place; entries = c.take.ensures.level; place = c.in-Some-release.ensures.place; stack = c.release.ensures.level; argument = c.index.ensures } in

@@ -2,21 +2,21 @@ use Rattle.std.proofs.Common.{sym, ◌∙◌, arith}
 use Rattle.closure_view.proofs.Shown.{leads_here, entry_held, free_shows, Filler, fills}
 use Rattle.closure_view.proofs.views.View.resolve.Goals as goal
 
-pub returns-in-default : goal.returns-in-default
-returns-in-default c = leads_here c.args.self.now c.args.spot c.loop-index.spot _ c.loop-index.invariant.1 c.loop-index.invariant.0 (omega arith) (sym c.in-default.ensures)
+pub returns-in_default : goal.returns-in_default
+returns-in_default c = leads_here c.args.self.now c.args.spot c.loop-index.spot _ c.loop-index.invariant.1 c.loop-index.invariant.0 (omega arith) (sym c.in_default.ensures)
 
-pub returns-in-err-entry : goal.returns-in-err-entry
-returns-in-err-entry c =
-    rw c.from-residual.ensures
-    (c.loop-index.invariant.1 ∙ free_shows c.args.self.now c.loop-index.spot c.loop-index.invariant.0 _ c.in-Some.index (sym c.in-Some.ensures) (sym c.in-err-entry.ensures))
+pub returns-in_err-entry : goal.returns-in_err-entry
+returns-in_err-entry c =
+    rw c.from_residual.ensures
+    (c.loop-index.invariant.1 ∙ free_shows c.args.self.now c.loop-index.spot c.loop-index.invariant.0 _ c.in-Some.index (sym c.in-Some.ensures) (sym c.in_err-entry.ensures))
 
 pub bounds-self-entry : goal.bounds-self-entry
-bounds-self-entry c = entry_held c.args.self.now c.loop-index.spot c.loop-index.invariant.0 c.in-Some.index c.in-ok-entry.entry (sym c.in-ok-entry.ensures)
+bounds-self-entry c = entry_held c.args.self.now c.loop-index.spot c.loop-index.invariant.0 c.in-Some.index c.in_ok-entry.entry (sym c.in_ok-entry.ensures)
 
 next : (c : goal.After-closure-spot-spot) → Filler c.args.self.now c.loop-index.spot c.closure-spot-spot.result
 next c =
-    fills c.args.self.now c.loop-index.spot c.loop-index.invariant.0 _ c.in-Some.index c.in-ok-entry.entry _ c.closure-spot-spot.result
-    (sym c.in-Some.ensures) (sym c.in-ok-entry.ensures) c.closure-spot-spot.ensures
+    fills c.args.self.now c.loop-index.spot c.loop-index.invariant.0 _ c.in-Some.index c.in_ok-entry.entry _ c.closure-spot-spot.result
+    (sym c.in-Some.ensures) (sym c.in_ok-entry.ensures) c.closure-spot-spot.ensures
 
 pub loop-index-smaller : goal.loop-index-smaller
 loop-index-smaller c = (next c).lower

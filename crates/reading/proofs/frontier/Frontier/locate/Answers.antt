@@ -8,5 +8,5 @@ pub returns-in-Place : goal.returns-in-Place
 returns-in-Place c =
     place_located _ _ _ _ (subst (Fitting c.args.opening.depth) c.in-Place.is c.requires.fitting) ∙ ap (located _ _) (sym c.in-Place.is)
 
-pub returns-in-default : goal.returns-in-default
-returns-in-default c = other_located _ _ _ _ c.in-default.not-Place
+pub returns-in_default : goal.returns-in_default
+returns-in_default c = other_located _ _ _ _ c.in_default.not-Place
