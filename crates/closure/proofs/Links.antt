@@ -20,8 +20,8 @@ use Rattle.closure_view.specs.Links.{linked}
 use Rattle.closure_view.proofs.Chains.{linked_is}
 use Rattle.closure.specs.declared.state.Closure.{Closure}
 use Rattle.closure.specs.Views.{tables_of, Hand, capacities, places_used, configuration}
-use Rattle.closure.specs.ViewsLemmas.{entries_long}
-use Rattle.closure.specs.Steps.{standing, reaches}
+use Rattle.closure.specs.Soundness.{entries_long}
+use Rattle.closure.proofs.Steps.{standing, reaches}
 
 abbrev entries_of : Closure → List Entry
 entries_of m = (tables_of m).entries

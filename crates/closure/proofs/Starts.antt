@@ -25,7 +25,7 @@ use Rattle.closure.specs.declared.state.Nodes.{Nodes}
 use Rattle.closure.specs.declared.state.Closure.{Closure}
 use Rattle.closure.specs.Views.{tables_of, configuration, meaning}
 use Rattle.closure.specs.Stores.{Stored, stored_in, storing}
-use Rattle.closure.specs.ViewsLemmas.{cells_long}
+use Rattle.closure.proofs.Views.{cells_long}
 
 folded_storing : (s : Stored) (ls : List Located) → fold storing s ls ≡ record { code = fold received s.code ls; long = s.long; capacity = s.capacity; entries = s.entries; stack = s.stack }
 folded_storing s [] = refl

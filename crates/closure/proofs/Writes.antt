@@ -14,8 +14,9 @@ use Rattle.closure_tables.proofs.Agree.{loaded_some}
 use Rattle.closure_view.specs.Lent.{lent}
 use Rattle.closure.specs.declared.state.Closure.{Closure}
 use Rattle.closure.specs.Views.{tables_of, capacities, places_used, meaning}
-use Rattle.closure.specs.ViewsLemmas.{entries_long, part_is}
-use Rattle.closure.specs.Steps.{standing}
+use Rattle.closure.specs.Soundness.{entries_long}
+use Rattle.closure.proofs.Views.{part_is}
+use Rattle.closure.proofs.Steps.{standing}
 
 -- the tables as they are lent
 pub lent_is :

@@ -1,5 +1,3 @@
 pub mod Views
 pub mod Stores
-pub mod Rules
-pub mod ViewsLemmas
-pub mod Steps
+pub mod Soundness

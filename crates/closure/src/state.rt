@@ -5,8 +5,8 @@ ghost use Rattle.closure_tables.specs.Valid.{valid};
 use closure_tables::{Argument, Cell, Entry};
 use tables::Levels;
 
+mod calls;
 mod dues;
-mod machine;
 mod starts;
 mod steps;
 mod storing;

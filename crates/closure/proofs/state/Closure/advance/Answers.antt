@@ -1,5 +1,5 @@
 use Rattle.std.proofs.Common.{arith}
-use Rattle.closure.specs.Steps.{ingredient_done}
+use Rattle.closure.proofs.Steps.{ingredient_done}
 use Rattle.closure.proofs.state.Closure.advance.Goals as goal
 
 pub returns-in-Ingredient : goal.returns-in-Ingredient

@@ -1,4 +1,4 @@
-use Rattle.closure.specs.Steps.{cell_read}
+use Rattle.closure.proofs.Steps.{cell_read}
 use Rattle.closure.proofs.state.Closure.cell.Goals as goal
 
 pub returns : goal.returns

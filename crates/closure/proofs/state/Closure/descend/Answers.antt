@@ -1,4 +1,4 @@
-use Rattle.closure.specs.Steps as steps
+use Rattle.closure.proofs.Steps as steps
 use Rattle.closure.proofs.state.Closure.descend.Goals as goal
 use Rattle.std.proofs.Common.{arith}
 
@@ -10,7 +10,7 @@ pub invariant_of-self-2 : goal.invariant_of-self-2
 invariant_of-self-2 c =
     let m = c.args.self.now in
     let k = steps.search_keeps m c.take.new.self c.in-Some.at c.args.right c.requires.standing c.requires.hand c.in-Some.ensures.place c.take.ensures.level in
-    (m.nodes_fit, (m.entries_fit, (omega (arith, k.0, m.stack_fit), (k.1, tt))))
+    record { nodes_fit = m.nodes_fit; entries_fit = m.entries_fit; stack_fit = omega (arith, k.0, m.stack_fit); kept = k.1 }
 
 pub returns : goal.returns
 returns c =

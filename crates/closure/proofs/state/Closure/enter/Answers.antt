@@ -1,6 +1,6 @@
 use Rattle.std.proofs.Common.{◌≡◌, ap, arith}
-use Rattle.closure.specs.Steps as steps
-use Rattle.closure.specs.Steps.{Popping}
+use Rattle.closure.proofs.Steps as steps
+use Rattle.closure.proofs.Steps.{Popping}
 use Rattle.closure.proofs.state.Closure.enter.Goals as goal
 
 pub returns-then-used-eq0 : goal.returns-then-used-eq0
@@ -18,7 +18,7 @@ invariant_of-self-3 c =
     let k = steps.beta_keeps m c.take.new.self c.release.new.self c.in-Some.entry c.in-Some-release.top c.index.result.now c.requires.standing c.requires.hand p in
     let entries : c.take.new.self.capacity ≡ m.levels.entries.capacity = ap (λ x. x.entries) k.0 in
     let stack : c.release.new.self.capacity ≡ m.levels.stack.capacity = ap (λ x. x.stack) k.0 in
-    (m.nodes_fit, (omega (arith, m.entries_fit), (omega (arith, m.stack_fit), (k.1, tt))))
+    record { nodes_fit = m.nodes_fit; entries_fit = omega (arith, m.entries_fit); stack_fit = omega (arith, m.stack_fit); kept = k.1 }
 
 pub returns : goal.returns
 returns c =

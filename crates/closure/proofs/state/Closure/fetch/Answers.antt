@@ -1,5 +1,5 @@
 use Rattle.std.proofs.Common.{arith}
-use Rattle.closure.specs.ViewsLemmas.{part_is}
+use Rattle.closure.proofs.Views.{part_is}
 use Rattle.closure.proofs.Links as links
 use Rattle.closure.proofs.state.Closure.fetch.Goals as goal
 
@@ -20,7 +20,7 @@ invariant_of-self-2 c =
     let m = c.args.self.now in
     let found = links.hand_linked m _ c.args.index _ c.requires.standing (part_is _ _ _ _ c.used.ensures c.deref.ensures.value) c.in-Some.ensures in
     let kept = links.substitution_keeps m c.args.index c.in-Some.entry c.index.result.now c.requires.standing c.requires.hand found c.index.ensures in
-    (m.nodes_fit, (m.entries_fit, (m.stack_fit, (kept, tt))))
+    record { nodes_fit = m.nodes_fit; entries_fit = m.entries_fit; stack_fit = m.stack_fit; kept = kept }
 
 pub returns : goal.returns
 returns c =

@@ -1,5 +1,5 @@
 use Rattle.std.proofs.Common.{Ok, sym, ap, ◌∙◌, arith}
-use Rattle.closure.specs.Rules as rules
+use Rattle.closure.proofs.Rules as rules
 use Rattle.closure.proofs.state.Closure.outcome.Goals as goal
 
 pub returns-in-Application : goal.returns-in-Application

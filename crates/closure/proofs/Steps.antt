@@ -25,7 +25,8 @@ use Rattle.closure_tables.proofs.Kept.{kept, argument_is}
 use Rattle.closure_tables.proofs.Agree as agree
 use Rattle.closure.specs.declared.state.Closure.{Closure}
 use Rattle.closure.specs.Views.{tables_of, Hand, capacities, places_used, configuration}
-use Rattle.closure.specs.ViewsLemmas.{cells_long, entries_long, stack_long}
+use Rattle.closure.specs.Soundness.{entries_long, stack_long}
+use Rattle.closure.proofs.Views.{cells_long}
 
 pub standing : (m : Closure) → 0 < m.levels.nodes.used → 0 < length (tables_of m).cells
 standing m h = omega (arith, cells_long m)

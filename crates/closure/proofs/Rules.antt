@@ -7,9 +7,9 @@ use Rattle.machine.specs.declared.outcomes.Outcome.{Outcome}
 use Rattle.machine.specs.declared.outcomes.Outcome.TheVariants.{Made, Done, Full}
 use Rattle.machine.specs.declared.outcomes.Transition.TheVariants.{Beta, Substitution, Search}
 use Rattle.machine.specs.declared.outcomes.Table.TheVariants.{Stack, Entries, Nodes}
-use Rattle.machine.specs.Meanings.{Sound, transition, done}
+use Rattle.machine.specs.Meanings.{transition, done}
 use Rattle.machine.specs.Rules.{AfterStart, start_of, AfterStep, outcome_due}
-use Rattle.abstract_machine.specs.Configurations.{explained, started, SoundConfiguration, Affordable}
+use Rattle.abstract_machine.specs.Configurations.{explained, started}
 use Rattle.abstract_machine.proofs.Rules as rules
 use Rattle.closure_tables.specs.declared.rows.Cell.TheVariants as cell
 use Rattle.closure_tables.specs.Presented.{no_price}
@@ -19,21 +19,8 @@ use Rattle.closure_tables.proofs.Moved as moved
 use Rattle.closure_tables.proofs.Agree as agree
 use Rattle.closure.specs.declared.state.Closure.{Closure}
 use Rattle.closure.specs.Views.{tables_of, Hand, capacities, places_used, configuration, meaning}
-use Rattle.closure.specs.ViewsLemmas.{entries_long, stack_long}
-use Rattle.closure.specs.Steps.{standing}
-
-pub configuration_sound : (m : Closure) → SoundConfiguration (configuration m)
-configuration_sound m =
-    agree.configured_sound (capacities m) (places_used m) (tables_of m)
-    (record { stack = m.levels.stack.limited; entries = m.levels.few; nodes = m.levels.nodes.limited })
-    (record { stack = m.levels.stack.within; entries = m.levels.entries.within; nodes = m.levels.nodes.within })
-    (sym (stack_long m)) (sym (entries_long m)) m.kept
-
-free_of_charge : Affordable no_price
-free_of_charge n s h = omega arith
-
-pub sound : (m : Closure) → Sound (meaning m)
-sound m = rules.sound no_price free_of_charge (configuration m) (configuration_sound m)
+use Rattle.closure.specs.Soundness.{stack_long, configuration_sound}
+use Rattle.closure.proofs.Steps.{standing}
 
 pub after_start : (m m' : Closure) (bs : List ℕ) (r : Result ℕ MachineFault) → r ≡ start_of bs (meaning m) → configuration m' ≡ started no_price bs (configuration m) → AfterStart bs (meaning m) r (meaning m')
 after_start m m' bs r answer after =

@@ -1,5 +1,5 @@
-use Rattle.closure.specs.Rules.{after_step}
-use Rattle.closure.proofs.state.machine.ClosureMachine.step.Goals as goal
+use Rattle.closure.proofs.Rules.{after_step}
+use Rattle.closure.proofs.state.calls.ClosureMachine.step.Goals as goal
 
 pub returns : goal.returns
 returns c = record {

@@ -4,7 +4,7 @@ ghost use Rattle.machine.specs.Writing.{AfterWrite};
 ghost use Rattle.abstract_machine.specs.Configurations.{explained, vacated, started, stepped};
 ghost use Rattle.closure_tables.specs.Presented.{no_price};
 ghost use Rattle.closure.specs.Views.{configuration, meaning};
-ghost use Rattle.closure.specs.Rules;
+ghost use Rattle.closure.specs.Soundness.{sound};
 
 use crate::state::Closure;
 use machine::{Machine, MachineFault, Outcome};
@@ -18,7 +18,7 @@ impl Machine for Closure {
 
     ghost meaning = { meaning };
 
-    ghost sound = { λ m. Rules.sound m };
+    ghost sound = { sound };
 
     fn kind_number() -> u8 {
         Self::KIND

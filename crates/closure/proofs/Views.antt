@@ -7,12 +7,6 @@ use Rattle.closure.specs.Views.{tables_of}
 pub cells_long : (m : Closure) → length (tables_of m).cells ≡ m.levels.nodes.used
 cells_long m = length-take-le _ _ (omega (arith, m.levels.nodes.within, m.nodes_fit, m.nodes.cells.ok))
 
-pub entries_long : (m : Closure) → length (tables_of m).entries ≡ m.levels.entries.used
-entries_long m = length-take-le _ _ (omega (arith, m.levels.entries.within, m.entries_fit, m.entries.ok))
-
-pub stack_long : (m : Closure) → length (tables_of m).stack ≡ m.levels.stack.used
-stack_long m = length-take-le _ _ (omega (arith, m.levels.stack.within, m.stack_fit, m.stack.ok))
-
 -- the front of a table, as code lends it
 pub part_is : {X : Type 0} (n k : ℕ) (xs ys : List X) → n ≡ k → xs ≡ ys → take (n - 0) xs ≡ take k ys
 part_is n k xs ys long same = let front : n - 0 ≡ k = omega arith in ap (λ i. take i xs) front ∙ ap (take k) same

@@ -1,5 +1,5 @@
-use Rattle.closure.specs.Rules.{after_start}
-use Rattle.closure.proofs.state.machine.ClosureMachine.start.Goals as goal
+use Rattle.closure.proofs.Rules.{after_start}
+use Rattle.closure.proofs.state.calls.ClosureMachine.start.Goals as goal
 
 pub returns : goal.returns
 returns c = record {
