@@ -11,7 +11,7 @@ use Rattle.machine.specs.declared.outcomes.Table.TheVariants.{Stack, Entries, No
 use Rattle.machine.specs.declared.outcomes.Outcome.TheVariants.{Made, Full}
 use Rattle.machine.specs.Meanings.{Places, Due, transition, done, Standing, SoundStanding, Sound, Within, most_places}
 use Rattle.machine.specs.Rules.{sized, start_of, Stands, StartEffect, AfterStart, emptied, outcome_of, outcome_due, Moved, StepEffect, AfterStep}
-use Rattle.abstract_machine.specs.Pieces.{Piece, place, ingredient, function, application, filled, unfilled, weight}
+use Rattle.abstract_machine.specs.Pieces.{Piece, place, ingredient, function, application, filled, unfilled}
 use Rattle.abstract_machine.specs.States.{State, initial, due_of, due_at, next, unfolded}
 use Rattle.abstract_machine.specs.Soundness.{SoundState}
 use Rattle.abstract_machine.specs.Configurations.{Loaded, Configuration, free_of, standing_of, standing_in, explained, vacated, holding, after_start, started, used_by, advanced, after_step, stepped, SoundLoaded, SoundConfiguration, Affordable}

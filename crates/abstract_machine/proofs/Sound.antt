@@ -3,7 +3,7 @@ use Rattle.std.proofs.Common.{◌≡◌, ℕ, suc, ◌<◌, ◌≤◌, true, fal
 use borrow.Author.Tests.{eqb-false}
 use Rattle.std.proofs.lemmas.Bool.{and_parts, and_from, leb-true, le-leb}
 use Rattle.term.specs.Terms as term
-use Rattle.abstract_machine.specs.Pieces.{Piece, ingredient, weight, reach, outer, numbered, plugged}
+use Rattle.abstract_machine.specs.Pieces.{Piece, weight, reach, outer, numbered, plugged}
 use Rattle.abstract_machine.specs.States.{State, entry_of, values}
 use Rattle.abstract_machine.specs.Soundness.{SoundPiece, SoundStack, SoundEntries, SoundState, sound_piece, sound_stack, sound_entries, sound_state}
 use Rattle.abstract_machine.proofs.Plugging as pieces
