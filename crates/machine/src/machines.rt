@@ -8,7 +8,7 @@ use crate::outcomes::Outcome;
 
 // A machine that reduces the term that stands in it, one transition at a time.
 pub trait Machine {
-    // the number of its kind; a clause cannot name a constant, so `kind` stands for it there, and generic code asks `kind_number`
+    // the number of its kind; in clauses `kind` stands for it, and generic code asks `kind_number`
     const KIND: u8;
 
     ghost kind: { ℕ };

@@ -4,7 +4,7 @@ use closure_tables::{Argument, Cell, Entry};
 use machine::{Machine, MachineFault, Outcome, Table, Transition};
 use node::Fault;
 use std::alloc::{AllocError, Global};
-use std::process::Abort;
+use std::fmt::Debug;
 use std::test::Fail;
 
 // a function that returns its argument, applied to an ingredient
@@ -66,6 +66,14 @@ fn run<M: Machine>(machine: &mut M, most: u32) -> Result<Counts, MachineFault> {
     Ok(made)
 }
 
+// Fails a trial whose answer is another; `assert_eq!` would want the right to abort.
+fn check_eq<T: PartialEq + Debug + Drop>(found: T, wanted: T) -> Result<(), Fail> {
+    if found == wanted {
+        return Ok(());
+    }
+    Err(Fail::new(format_args!("{found:?}, and not {wanted:?}")))
+}
+
 // A recipe, its size, how often each kind of transition is made of it, and the code that stands then.
 #[derive(Clone, Copy)]
 struct Trial<'a> {
@@ -75,25 +83,26 @@ struct Trial<'a> {
     standing: &'a [u8],
 }
 
-fn stands<M: Machine>(rt: &impl Abort, machine: &M, code: &[u8]) -> Result<(), Fail> {
+fn stands<M: Machine>(machine: &M, code: &[u8]) -> Result<(), Fail> {
     let mut output = [0; 32];
     let mut scratch = [0; 32];
     let length = machine.write(&mut output, &mut scratch)?;
-    assert!(rt; length <= 32);
-    assert!(rt; &output[0..length] == code);
-    Ok(())
+    match output.get(0..length) {
+        Some(written) => check_eq(written, code),
+        None => Err(Fail::new("longer than the output")),
+    }
 }
 
-fn ends<M: Machine>(rt: &impl Abort, machine: &mut M, trial: &Trial) -> Result<(), Fail> {
-    assert_eq!(rt; machine.start(trial.code), Ok(trial.size));
-    assert_eq!(rt; run(machine, 1000)?, trial.counts);
-    assert_eq!(rt; machine.due(), Ok(Outcome::Done));
-    stands(rt, machine, trial.standing)?;
+fn ends<M: Machine>(machine: &mut M, trial: &Trial) -> Result<(), Fail> {
+    check_eq(machine.start(trial.code), Ok(trial.size))?;
+    check_eq(run(machine, 1000)?, trial.counts)?;
+    check_eq(machine.due(), Ok(Outcome::Done))?;
+    stands(machine, trial.standing)?;
     machine.empty();
     Ok(())
 }
 
-fn all_end<M: Machine>(rt: &impl Abort, machine: &mut M) -> Result<(), Fail> {
+fn all_end<M: Machine>(machine: &mut M) -> Result<(), Fail> {
     let trials = [
         Trial {
             code: &[0x04, 0x00, 0x05],
@@ -127,45 +136,37 @@ fn all_end<M: Machine>(rt: &impl Abort, machine: &mut M) -> Result<(), Fail> {
         },
     ];
     for trial in &trials {
-        ends(rt, machine, trial)?;
+        ends(machine, trial)?;
     }
     Ok(())
 }
 
 #[test]
 fn recipes_end_as_known(rt: HostRuntime) -> Result<(), Fail> {
-    all_end(&rt, &mut machine_of(rt.alloc(), 18, 6, 8)?)
+    all_end(&mut machine_of(rt.alloc(), 18, 6, 8)?)
 }
 
-fn comes_round<M: Machine>(rt: &impl Abort, machine: &mut M) -> Result<(), Fail> {
+fn comes_round<M: Machine>(machine: &mut M) -> Result<(), Fail> {
     machine.start(&ENDLESS)?;
-    assert_eq!(rt; run(machine, 13)?, counted(3, 6, 4));
-    stands(rt, machine, &ENDLESS)
+    check_eq(run(machine, 13)?, counted(3, 6, 4))?;
+    stands(machine, &ENDLESS)
 }
 
 #[test]
 fn what_has_no_end_comes_round(rt: HostRuntime) -> Result<(), Fail> {
-    comes_round(&rt, &mut machine_of(rt.alloc(), 9, 4, 2)?)
+    comes_round(&mut machine_of(rt.alloc(), 9, 4, 2)?)
 }
 
-fn fills<M: Machine>(
-    rt: &impl Abort,
-    machine: &mut M,
-    code: &[u8],
-    made: Counts,
-    table: Table,
-) -> Result<(), Fail> {
+fn fills<M: Machine>(machine: &mut M, code: &[u8], made: Counts, table: Table) -> Result<(), Fail> {
     machine.start(code)?;
-    assert_eq!(rt; run(machine, 1000)?, made);
-    assert_eq!(rt; machine.due(), Ok(Outcome::Full(table)));
-    assert_eq!(rt; machine.step(), Ok(Outcome::Full(table)));
-    Ok(())
+    check_eq(run(machine, 1000)?, made)?;
+    check_eq(machine.due(), Ok(Outcome::Full(table)))?;
+    check_eq(machine.step(), Ok(Outcome::Full(table)))
 }
 
 #[test]
 fn entries_run_out(rt: HostRuntime) -> Result<(), Fail> {
     fills(
-        &rt,
         &mut machine_of(rt.alloc(), 9, 2, 2)?,
         &ENDLESS,
         counted(2, 3, 3),
@@ -176,7 +177,6 @@ fn entries_run_out(rt: HostRuntime) -> Result<(), Fail> {
 #[test]
 fn the_stack_runs_out(rt: HostRuntime) -> Result<(), Fail> {
     fills(
-        &rt,
         &mut machine_of(rt.alloc(), 8, 1, 0)?,
         &IDENTITY,
         counted(0, 0, 0),
@@ -184,47 +184,45 @@ fn the_stack_runs_out(rt: HostRuntime) -> Result<(), Fail> {
     )
 }
 
-fn writes<M: Machine>(rt: &impl Abort, machine: &mut M) -> Result<(), Fail> {
+fn writes<M: Machine>(machine: &mut M) -> Result<(), Fail> {
     let mut short = [9; 2];
     let mut output = [9; 3];
     let mut scratch = [9; 3];
-    assert_eq!(rt;
+    check_eq(
         machine.write(&mut short, &mut scratch),
-        Err(MachineFault::Empty)
-    );
-    assert_eq!(rt; short, [9; 2]);
+        Err(MachineFault::Empty),
+    )?;
+    check_eq(short, [9; 2])?;
     machine.start(&[0x04, 0x00, 0x05])?;
-    assert_eq!(rt;
+    check_eq(
         machine.write(&mut short, &mut scratch),
-        Err(MachineFault::ShortOutput)
-    );
-    assert_eq!(rt; short, [0; 2]);
-    assert_eq!(rt; scratch, [0; 3]);
-    assert_eq!(rt; machine.write(&mut output, &mut scratch), Ok(3));
-    assert_eq!(rt; output, [0x04, 0x00, 0x05]);
-    Ok(())
+        Err(MachineFault::ShortOutput),
+    )?;
+    check_eq(short, [0; 2])?;
+    check_eq(scratch, [0; 3])?;
+    check_eq(machine.write(&mut output, &mut scratch), Ok(3))?;
+    check_eq(output, [0x04, 0x00, 0x05])
 }
 
 #[test]
 fn a_write_fits_or_leaves_nothing(rt: HostRuntime) -> Result<(), Fail> {
-    writes(&rt, &mut machine_of(rt.alloc(), 1, 0, 0)?)
+    writes(&mut machine_of(rt.alloc(), 1, 0, 0)?)
 }
 
-fn refuses_in_order<M: Machine>(rt: &impl Abort, machine: &mut M) {
-    assert_eq!(rt; machine.step(), Err(MachineFault::Empty));
+fn refuses_in_order<M: Machine>(machine: &mut M) -> Result<(), Fail> {
+    check_eq(machine.step(), Err(MachineFault::Empty))?;
     let longer = [0x01, 0x02, 0x03, 0x00, 0x04, 0x00, 0x05, 0x00];
-    assert_eq!(rt;
+    check_eq(
         machine.start(&longer),
-        Err(MachineFault::Code(Fault::Leftover { at: 7 }))
-    );
-    assert_eq!(rt; machine.start(&IDENTITY), Err(MachineFault::TooLarge));
-    assert_eq!(rt; machine.due(), Err(MachineFault::Empty));
-    assert_eq!(rt; machine.start(&[0x02, 0x03, 0x00]), Ok(2));
-    assert_eq!(rt; machine.start(&[]), Err(MachineFault::Standing));
+        Err(MachineFault::Code(Fault::Leftover { at: 7 })),
+    )?;
+    check_eq(machine.start(&IDENTITY), Err(MachineFault::TooLarge))?;
+    check_eq(machine.due(), Err(MachineFault::Empty))?;
+    check_eq(machine.start(&[0x02, 0x03, 0x00]), Ok(2))?;
+    check_eq(machine.start(&[]), Err(MachineFault::Standing))
 }
 
 #[test]
 fn starts_are_refused_in_order(rt: HostRuntime) -> Result<(), Fail> {
-    refuses_in_order(&rt, &mut machine_of(rt.alloc(), 3, 1, 1)?);
-    Ok(())
+    refuses_in_order(&mut machine_of(rt.alloc(), 3, 1, 1)?)
 }
