@@ -1,5 +1,5 @@
 -- Pieces of code whose filled places name what fills them. Assumes nothing.
-use Rattle.std.specs.Prelude.{ℕ, suc, ◌+◌, ◌-◌, max, cond, List, [], ◌∷◌, length, ◌==◌}
+use Rattle.std.specs.Prelude.{ℕ, suc, ◌+◌, ◌-◌, max, if◌then◌else◌, List, [], ◌∷◌, length, ◌==◌}
 use Rattle.term.specs.Terms as term
 use Rattle.term.specs.Terms.{Term}
 
@@ -45,7 +45,7 @@ outer (filled j) = 0
 
 -- the places of index i, counted from outside the piece, are filled by the β transition j
 abbrev pub opened : ℕ → ℕ → Piece → Piece
-opened i j (place k) = cond (k == i) (filled j) (place k)
+opened i j (place k) = if k == i then filled j else place k
 opened i j (ingredient n) = ingredient n
 opened i j (function p) = function (opened (suc i) j p)
 opened i j (application p q) = application (opened i j p) (opened i j q)
@@ -54,7 +54,7 @@ opened i j (filled n) = filled n
 -- the element that has j others behind it: what was put in front number j, from 0; d if there is none
 abbrev pub numbered : {X : Type 0} → X → List X → ℕ → X
 numbered d [] j = d
-numbered d (x ∷ xs) j = cond (j == length xs) x (numbered d xs j)
+numbered d (x ∷ xs) j = if j == length xs then x else numbered d xs j
 
 -- a piece as a term, with a term for each β transition that it may name, the latest first
 abbrev pub plugged : List Term → Piece → Term

@@ -1,5 +1,5 @@
 -- The walk along a chain of entries. Assumes nothing.
-use Rattle.std.proofs.Common.{◌≡◌, ℕ, ◌+◌, ◌<◌, true, List, length, get_or, Some, None, Ok, vec_items, Option, sym, refl, ap, ◌∙◌, arith, get_or-take}
+use Rattle.std.proofs.Common.{◌≡◌, ℕ, ◌+◌, ◌<◌, true, List, length, get_or, take, Some, None, Ok, vec_items, Option, sym, refl, ap, ◌∙◌, arith, get_or-take}
 use Rattle.std.proofs.lemmas.List.{get_or_default}
 use Rattle.std.specs.List.{slice_get}
 use Rattle.closure_tables.specs.declared.rows.Entry.{Entry}
@@ -15,13 +15,13 @@ use Rattle.closure_tables.proofs.Agree as agree
 use Rattle.machine.specs.declared.outcomes.Outcome.TheVariants.{Made}
 use Rattle.machine.specs.declared.outcomes.Transition.TheVariants.{Substitution}
 use Rattle.abstract_machine.specs.Configurations.{used_by}
-use Rattle.closure_tables.proofs.Kept.{kept, argument_is}
+use Rattle.closure_tables.proofs.Kept.{argument_is}
 use Rattle.closure_view.specs.Links.{linked}
 use Rattle.closure_view.proofs.Chains.{linked_is}
 use Rattle.closure.specs.declared.state.Closure.{Closure}
 use Rattle.closure.specs.Views.{tables_of, Hand, capacities, places_used, configuration}
 use Rattle.closure.specs.Soundness.{entries_long}
-use Rattle.closure.proofs.Steps.{standing, reaches}
+use Rattle.closure.proofs.Steps.{in_hand, kept_at, reaches}
 
 abbrev entries_of : Closure → List Entry
 entries_of m = (tables_of m).entries
@@ -33,26 +33,27 @@ entry_read m e x low read =
     let inside : e < length rows = omega (arith, m.levels.entries.within, m.entries_fit, m.entries.ok) in
     read ∙ get_or_default rows e x blank_entry inside ∙ sym (get_or-take m.levels.entries.used rows e blank_entry low)
 
--- the walk along the chain in hand
+-- the walk along the chain in hand, over the entries in use
 pub hand_linked :
-    (m : Closure) (es : List Entry) (j : ℕ) (o : Option ℕ) → 0 < m.levels.nodes.used → es ≡ entries_of m → o ≡ linked es m.hand.chain j →
+    (m : Closure) (j n : ℕ) (rows : List Entry) (o : Option ℕ) → Hand m (cell.Place j) →
+    n ≡ m.levels.entries.used → rows ≡ vec_items m.entries → o ≡ linked (take n rows) m.hand.chain j →
     slice_get (chain_in (entries_of m) m.hand.chain) j ≡ o
-hand_linked m es j o stands same found =
-    let t = tables_of m in
-    let ok = kept t (standing m stands) m.kept in
-    sym (linked_is t ok m.hand.chain j (argument_is _ _ m.hand ok.hand).chain) ∙ ap (λ x. linked x m.hand.chain j) (sym same) ∙ sym found
+hand_linked m j n rows o hand long are found =
+    let ok = kept_at m _ hand refl in
+    let same : linked (take n rows) m.hand.chain j ≡ linked (entries_of m) m.hand.chain j = cc in
+    sym (linked_is (tables_of m) ok m.hand.chain j (argument_is _ _ m.hand ok.hand).chain) ∙ sym same ∙ sym found
 
 -- substitution
 
-pub place_filled : (m : Closure) (j : ℕ) → 0 < m.levels.nodes.used → Hand m (cell.Place j) → slice_get (chain_in (entries_of m) m.hand.chain) j ≡ None → ⊥
-place_filled m j stands hand none = moved.place_filled (tables_of m) (kept (tables_of m) (standing m stands) m.kept) j hand none
+pub place_filled : (m : Closure) (j : ℕ) → Hand m (cell.Place j) → slice_get (chain_in (entries_of m) m.hand.chain) j ≡ None → ⊥
+place_filled m j hand none = moved.place_filled (tables_of m) (kept_at m _ hand refl) j hand none
 
-pub entry_low : (m : Closure) (j e : ℕ) → 0 < m.levels.nodes.used → slice_get (chain_in (entries_of m) m.hand.chain) j ≡ Some e → e < m.levels.entries.used
-entry_low m j e stands found = omega (arith, moved.entry_low (tables_of m) (kept (tables_of m) (standing m stands) m.kept) j e found, entries_long m)
+pub entry_low : (m : Closure) (j e : ℕ) → Hand m (cell.Place j) → slice_get (chain_in (entries_of m) m.hand.chain) j ≡ Some e → e < m.levels.entries.used
+entry_low m j e hand found = omega (arith, moved.entry_low (tables_of m) (kept_at m _ hand refl) j e found, entries_long m)
 
 abbrev with_hand : Closure → Argument → Tables
 with_hand m a =
-    below m.levels.nodes.used (vec_items m.nodes.cells) m.levels.entries.used (vec_items m.entries) m.levels.stack.used (vec_items m.stack) a
+    below m.levels.nodes.used (vec_items m.cells) m.levels.entries.used (vec_items m.entries) m.levels.stack.used (vec_items m.stack) a
 
 fetched_is : (m : Closure) (e : ℕ) (x : Entry) → e < m.levels.entries.used → x ≡ get_or (vec_items m.entries) e x → with_hand m x.argument ≡ fetched e (tables_of m)
 fetched_is m e x low read =
@@ -60,16 +61,16 @@ fetched_is m e x low read =
     cc
 
 pub substitution_made :
-    (m : Closure) (j e : ℕ) (x : Entry) → 0 < m.levels.nodes.used → Hand m (cell.Place j) → slice_get (chain_in (entries_of m) m.hand.chain) j ≡ Some e → x ≡ get_or (vec_items m.entries) e x →
+    (m : Closure) (j e : ℕ) (x : Entry) → Hand m (cell.Place j) → slice_get (chain_in (entries_of m) m.hand.chain) j ≡ Some e → x ≡ get_or (vec_items m.entries) e x →
     StepsAs (configuration m) (Ok (Made Substitution)) (configured (capacities m) (places_used m) (with_hand m x.argument))
-substitution_made m j e x stands hand found read =
+substitution_made m j e x hand found read =
     let free : places_used m ≡ used_by Substitution 0 (places_used m) = let none : m.levels.nodes.used + 0 ≡ m.levels.nodes.used = omega arith in cc in
     reaches (configuration m) (Ok (Made Substitution)) (capacities m) (capacities m) (used_by Substitution 0 (places_used m)) (places_used m) (fetched e (tables_of m)) (with_hand m x.argument)
-    (agree.substitution_as (capacities m) (places_used m) (tables_of m) j e (standing m stands) m.kept hand found)
-    refl free (fetched_is m e x (entry_low m j e stands found) read)
+    (agree.substitution_as (capacities m) (places_used m) (tables_of m) j e (in_hand m _ hand refl) m.kept hand found)
+    refl free (fetched_is m e x (entry_low m j e hand found) read)
 
 pub substitution_keeps :
-    (m : Closure) (j e : ℕ) (x : Entry) → 0 < m.levels.nodes.used → Hand m (cell.Place j) → slice_get (chain_in (entries_of m) m.hand.chain) j ≡ Some e → x ≡ get_or (vec_items m.entries) e x →
+    (m : Closure) (j e : ℕ) (x : Entry) → Hand m (cell.Place j) → slice_get (chain_in (entries_of m) m.hand.chain) j ≡ Some e → x ≡ get_or (vec_items m.entries) e x →
     valid (with_hand m x.argument) ≡ true
-substitution_keeps m j e x stands hand found read =
-    ap valid (fetched_is m e x (entry_low m j e stands found) read) ∙ agree.substitution_valid (tables_of m) j e (standing m stands) m.kept hand found
+substitution_keeps m j e x hand found read =
+    ap valid (fetched_is m e x (entry_low m j e hand found) read) ∙ agree.substitution_valid (tables_of m) j e (in_hand m _ hand refl) m.kept hand found

@@ -1,34 +1,43 @@
 -- A node more in the closure machine's table. Assumes nothing.
-use Rattle.std.proofs.Common.{◌≡◌, ℕ, ◌+◌, ◌-◌, ◌<◌, min, [], ◌∷◌, ◌++◌, length, take, set, Some, vec_items, vec_len, ap, ◌∙◌, arith}
+use Rattle.std.proofs.Common.{◌≡◌, ℕ, ◌+◌, ◌-◌, ◌<◌, min, List, [], ◌∷◌, vec_items, vec_len, ◌++◌, take, set, Some, ap, ◌∙◌, arith}
 use Rattle.node.specs.declared.nodes.Located.{Located}
-use Rattle.tables.specs.declared.levels.Levels.{Levels}
 use Rattle.tables.specs.declared.levels.Level.{Level}
 use Rattle.tables.specs.Usages.{usage, first_free, one_more}
 use Rattle.tables.proofs.Usages as usages
-use Rattle.closure_tables.specs.Received.{received, cell_of, joined}
-use Rattle.closure_tables.proofs.Storing as storing
-use Rattle.closure.specs.declared.state.Nodes.{Nodes}
-use Rattle.closure.specs.Stores.{stored_in}
+use Rattle.closure_tables.specs.declared.rows.Cell.{Cell}
+use Rattle.closure_tables.specs.Received.{cell_of, joined}
+use Rattle.closure_tables.proofs.Storing as stores
+use Rattle.closure.specs.declared.state.storing.Nodes.{Nodes}
+use Rattle.closure.specs.Stores.{Stored, stored_in, storing}
+
+-- a table that is lent by those names, with a cell written
+abbrev pub written : Level → List Cell → ℕ → ℕ → Cell → ℕ → ℕ → Stored
+written up rows long at x cells_lent level_lent = record {
+  code = record { cells = take up.used (set rows at x); room = min up.capacity long - up.used };
+  long = long;
+  capacity = up.capacity;
+  cells_lent = cells_lent;
+  level_lent = level_lent;
+}
 
 -- a node was stored at the level, which rose
 pub stored_more :
-    (n : Nodes) (l : Levels) (up : Level) (at : ℕ) (node : Located) → l.nodes.used < vec_len n.cells →
-    Some at ≡ first_free (usage l.nodes) → usage up ≡ one_more (usage l.nodes) →
-    record { cells = take up.used (set (joined node.part node.number (vec_items n.cells)) at (cell_of node.node)); room = min up.capacity (vec_len n.cells) - up.used }
-    ≡ received (stored_in n l).code node
-stored_more n l up at node room place level =
-    let took = usages.taken (usage l.nodes) at place in
-    let k = l.nodes.used in
-    let rows = vec_items n.cells in
-    let x = cell_of node.node in
+    (n : Nodes) (up : Level) (rows : List Cell) (long at : ℕ) (x : Cell) (node : Located) (cells_lent level_lent : ℕ) →
+    n.level.now.used < vec_len n.cells.now → Some at ≡ first_free (usage n.level.now) → usage up ≡ one_more (usage n.level.now) →
+    rows ≡ joined node.part node.number (vec_items n.cells.now) → long ≡ vec_len n.cells.now → x ≡ cell_of node.node → cells_lent ≡ n.cells.ghost_name → level_lent ≡ n.level.ghost_name →
+    written up rows long at x cells_lent level_lent ≡ storing (stored_in n) node
+stored_more n up rows long at x node cells_lent level_lent room place level joins length_same is cells_same level_same =
+    let took = usages.taken (usage n.level.now) at place in
+    let k = n.level.now.used in
     let used : up.used ≡ k + 1 = let u = ap (λ u. u.used) level ∙ took.level in omega arith in
-    let capacity : up.capacity ≡ l.nodes.capacity = ap (λ u. u.capacity) level in
-    let long : k < length rows = omega (arith, n.cells.ok) in
-    let cells : take up.used (set (joined node.part node.number rows) at x) ≡ joined node.part node.number (take k rows) ++ x ∷ []
-    = ap (λ j. take j (set (joined node.part node.number rows) at x)) used
-    ∙ ap (λ i. take (k + 1) (set (joined node.part node.number rows) i x)) took.at_level
-    ∙ storing.stored_below node.part node.number k rows x long in
-    let free : min up.capacity (vec_len n.cells) - up.used ≡ (min l.nodes.capacity (vec_len n.cells) - k) - 1 = omega arith in
-    let some : 0 < min l.nodes.capacity (vec_len n.cells) - k = omega (arith, took.free) in
-    let there = storing.stored (stored_in n l).code node some in
+    let capacity : up.capacity ≡ n.level.now.capacity = ap (λ u. u.capacity) level in
+    let cells : take up.used (set rows at x) ≡ joined node.part node.number (take k (vec_items n.cells.now)) ++ cell_of node.node ∷ []
+    = ap (λ r. take up.used (set r at x)) joins
+    ∙ ap (λ c. take up.used (set (joined node.part node.number (vec_items n.cells.now)) at c)) is
+    ∙ ap (λ j. take j (set (joined node.part node.number (vec_items n.cells.now)) at (cell_of node.node))) used
+    ∙ ap (λ i. take (k + 1) (set (joined node.part node.number (vec_items n.cells.now)) i (cell_of node.node))) took.at_level
+    ∙ stores.stored_below node.part node.number k (vec_items n.cells.now) (cell_of node.node) (omega (arith, n.cells.now.ok)) in
+    let free : min up.capacity long - up.used ≡ (min n.level.now.capacity (vec_len n.cells.now) - k) - 1 = omega arith in
+    let some : 0 < min n.level.now.capacity (vec_len n.cells.now) - k = omega (arith, took.free) in
+    let there = stores.stored (stored_in n).code node some in
     cc

@@ -6,7 +6,7 @@ use Rattle.closure.specs.Views.{tables_of}
 use Rattle.closure.specs.Soundness.{length_in_use}
 
 pub cells_long : (m : Closure) → length (tables_of m).cells ≡ m.levels.nodes.used
-cells_long m = length_in_use _ _ _ _ m.levels.nodes.within m.nodes_fit m.nodes.cells.ok.0
+cells_long m = length_in_use _ _ _ _ m.levels.nodes.within m.nodes_fit m.cells.ok.0
 
 -- the front of a table, as code lends it
 pub part_is : {X : Type 0} (n k : ℕ) (xs ys : List X) → n ≡ k → xs ≡ ys → take (n - 0) xs ≡ take k ys

@@ -1,5 +1,5 @@
 -- The code of the standing term is that of the term at the root of its tables. Assumes nothing.
-use Rattle.std.proofs.Common.{◌≡◌, ℕ, ◌-◌, ◌^◌, ◌<◌, List, length, take, vec_items, sym, ap, ◌∙◌, arith}
+use Rattle.std.proofs.Common.{◌≡◌, ℕ, ◌^◌, ◌<◌, List, length, take, vec_items, sym, ap, ◌∙◌, arith}
 use Rattle.machine.specs.Writing.{written}
 use Rattle.machine.specs.Rules.{write_of}
 use Rattle.abstract_machine.specs.Configurations.{explained}
@@ -15,18 +15,13 @@ use Rattle.closure_view.specs.Lent.{lent}
 use Rattle.closure.specs.declared.state.Closure.{Closure}
 use Rattle.closure.specs.Views.{tables_of, capacities, places_used, meaning}
 use Rattle.closure.specs.Soundness.{entries_long}
-use Rattle.closure.proofs.Views.{part_is}
 use Rattle.closure.proofs.Steps.{standing}
 
 -- the tables as they are lent
 pub lent_is :
     (m : Closure) (n b k : ℕ) (cells : List Cell) (entries : List Entry) (stack : List Argument) → n ≡ m.levels.nodes.used → b ≡ m.levels.entries.used → k ≡ m.levels.stack.used →
-    cells ≡ vec_items m.nodes.cells → entries ≡ vec_items m.entries → stack ≡ vec_items m.stack → lent (take (n - 0) cells) (take (b - 0) entries) (take (k - 0) stack) m.hand ≡ tables_of m
-lent_is m n b k cells entries stack en eb ek ecells eentries estack =
-    let one = part_is n m.levels.nodes.used cells (vec_items m.nodes.cells) en ecells in
-    let two = part_is b m.levels.entries.used entries (vec_items m.entries) eb eentries in
-    let three = part_is k m.levels.stack.used stack (vec_items m.stack) ek estack in
-    cc
+    cells ≡ vec_items m.cells → entries ≡ vec_items m.entries → stack ≡ vec_items m.stack → lent (take n cells) (take b entries) (take k stack) m.hand ≡ tables_of m
+lent_is m n b k cells entries stack en eb ek ecells eentries estack = cc
 
 -- what a view asks of the tables that it lends
 pub lent_few : (m : Closure) (t : Tables) → t ≡ tables_of m → length t.entries < 2 ^ 31

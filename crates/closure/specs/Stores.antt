@@ -1,30 +1,29 @@
 -- The closure machine's table of nodes as a receiver. Assumes nothing.
 use Rattle.std.specs.Prelude.{ℕ, ◌-◌, min, take, vec_items, vec_len}
 use Rattle.node.specs.declared.nodes.Located.{Located}
-use Rattle.tables.specs.declared.levels.Levels.{Levels}
-use Rattle.tables.specs.Usages.{Usage, usage}
 use Rattle.closure_tables.specs.Received.{Received, received}
-use Rattle.closure.specs.declared.state.Nodes.{Nodes}
+use Rattle.closure.specs.declared.state.storing.Nodes.{Nodes}
 
--- what is stored of a code, in a table of that length under that capacity; the levels of the other tables are lent with it, and stay
+-- What is stored of a code, in a table of that length under that capacity, and the names of the two loans that it is stored by.
 pub record Stored : Type 0 where
   pub code : Received
   pub long : ℕ
   pub capacity : ℕ
-  pub entries : Usage
-  pub stack : Usage
+  pub cells_lent : ℕ
+  pub level_lent : ℕ
 
-abbrev pub stored_in : Nodes → Levels → Stored
-stored_in n l = record {
+abbrev pub stored_in : Nodes → Stored
+stored_in n = record {
   code = record {
-    cells = take l.nodes.used (vec_items n.cells);
-    room = min l.nodes.capacity (vec_len n.cells) - l.nodes.used;
+    cells = take n.level.now.used (vec_items n.cells.now);
+    room = min n.level.now.capacity (vec_len n.cells.now) - n.level.now.used;
   };
-  long = vec_len n.cells;
-  capacity = l.nodes.capacity;
-  entries = usage l.entries;
-  stack = usage l.stack;
+  long = vec_len n.cells.now;
+  capacity = n.level.now.capacity;
+  cells_lent = n.cells.ghost_name;
+  level_lent = n.level.ghost_name;
 }
 
 abbrev pub storing : Stored → Located → Stored
-storing s l = record { code = received s.code l; long = s.long; capacity = s.capacity; entries = s.entries; stack = s.stack }
+storing s l =
+    record { code = received s.code l; long = s.long; capacity = s.capacity; cells_lent = s.cells_lent; level_lent = s.level_lent }

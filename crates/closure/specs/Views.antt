@@ -12,7 +12,7 @@ use Rattle.closure.specs.declared.state.Closure.{Closure}
 -- the places below the levels: nothing that follows looks at any other
 abbrev pub tables_of : Closure → Tables
 tables_of m =
-    below m.levels.nodes.used (vec_items m.nodes.cells) m.levels.entries.used (vec_items m.entries) m.levels.stack.used (vec_items m.stack) m.hand
+    below m.levels.nodes.used (vec_items m.cells) m.levels.entries.used (vec_items m.entries) m.levels.stack.used (vec_items m.stack) m.hand
 
 -- the cell in hand
 abbrev pub Hand : Closure → Cell → Type 0

@@ -12,22 +12,16 @@ mod steps;
 mod storing;
 mod writes;
 
-// The nodes of the code, in its order.
-#[derive(Drop)]
-pub struct Nodes {
-    cells: Vec<Cell>,
-}
-
 // Tables of lengths that never change, how much of them is in use, and the closure in hand. A term stands where nodes are in use.
 #[derive(Drop)]
 pub struct Closure {
-    nodes: Nodes,
+    cells: Vec<Cell>,
     entries: Vec<Entry>,
     stack: Vec<Argument>,
     levels: Levels,
     hand: Argument,
-    ghost nodes_fit: { levels.nodes.capacity ≤ vec_len nodes.cells },
+    ghost nodes_fit: { levels.nodes.capacity ≤ vec_len cells },
     ghost entries_fit: { levels.entries.capacity ≤ vec_len entries },
     ghost stack_fit: { levels.stack.capacity ≤ vec_len stack },
-    ghost kept: { valid (below levels.nodes.used nodes.cells.items levels.entries.used entries.items levels.stack.used stack.items hand) ≡ true },
+    ghost kept: { valid (below levels.nodes.used cells.items levels.entries.used entries.items levels.stack.used stack.items hand) ≡ true },
 }

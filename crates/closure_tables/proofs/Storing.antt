@@ -1,10 +1,10 @@
 -- The table that is handed a term's nodes holds the term's cells. Assumes nothing.
-use Rattle.std.proofs.Common.{◌≡◌, ℕ, zero, suc, ◌+◌, ◌-◌, ◌<◌, ◌≤◌, min, ltb, List, [], ◌∷◌, ◌++◌, length, take, set, fold, refl, ap, ◌∙◌, append_assoc, arith, length-append, length-set}
+use Rattle.std.proofs.Common.{◌≡◌, ℕ, zero, suc, ◌+◌, ◌-◌, ◌<◌, ◌≤◌, min, ltb, List, [], ◌∷◌, ◌++◌, length, take, set, Some, None, Option, fold, refl, ap, ◌∙◌, append_assoc, arith, length-append, length-set}
 use Rattle.std.proofs.lemmas.List.{set_at, length_push, take_more_set}
 use Rattle.std.proofs.lemmas.Bool.{cond-true, lt-ltb}
 use Rattle.std.proofs.iter.runs.Lists.{fold-append}
 use Rattle.node.specs.declared.nodes.Part.{Part}
-use Rattle.node.specs.declared.nodes.Part.TheVariants.{Root, Left, Right, Body}
+use Rattle.node.specs.declared.nodes.Part.TheVariants.{Left, Right, Body}
 use Rattle.node.specs.declared.nodes.Node.TheVariants.{Application, Function, Place, Ingredient}
 use Rattle.node.specs.declared.nodes.Located.{Located}
 use Rattle.term.specs.Terms.{Term, place, ingredient, function, application, size, nesting, Covered}
@@ -25,13 +25,11 @@ pub stored : (r : Received) (l : Located) → 0 < r.room → received r l ≡ re
 stored r l h =
     cond-true (ltb 0 r.room) (holding (joined l.part l.number r.cells ++ cell_of l.node ∷ []) (r.room - 1)) r (lt-ltb 0 r.room h)
 
-length_joined : (p : Part) (n : ℕ) (xs : List Cell) → length (joined p n xs) ≡ length xs
-length_joined Root n xs = refl
-length_joined (Left a) n xs = refl
-length_joined (Right a) n xs = length-set xs a (cell.Application n)
-length_joined (Body f) n xs = refl
-
--- the places in use and the room make up the table, however many nodes are handed over
+pub length_joined : (p : Option Part) (n : ℕ) (xs : List Cell) → length (joined p n xs) ≡ length xs
+length_joined None n xs = refl
+length_joined (Some (Left a)) n xs = refl
+length_joined (Some (Right a)) n xs = length-set xs a (cell.Application n)
+length_joined (Some (Body f)) n xs = refl
 
 -- the cells in use of a longer list
 
@@ -41,15 +39,15 @@ set_below (suc n) [] a x = refl
 set_below (suc n) (y ∷ xs) zero x = refl
 set_below (suc n) (y ∷ xs) (suc a) x = ap (λ l. y ∷ l) (set_below n xs a x)
 
-joined_below : (p : Part) (m n : ℕ) (xs : List Cell) → take n (joined p m xs) ≡ joined p m (take n xs)
-joined_below Root m n xs = refl
-joined_below (Left a) m n xs = refl
-joined_below (Right a) m n xs = set_below n xs a (cell.Application m)
-joined_below (Body f) m n xs = refl
+joined_below : (p : Option Part) (m n : ℕ) (xs : List Cell) → take n (joined p m xs) ≡ joined p m (take n xs)
+joined_below None m n xs = refl
+joined_below (Some (Left a)) m n xs = refl
+joined_below (Some (Right a)) m n xs = set_below n xs a (cell.Application m)
+joined_below (Some (Body f)) m n xs = refl
 
 -- where a table has n cells in use and more places, the cell at place n is one more
 pub stored_below :
-    (p : Part) (m n : ℕ) (xs : List Cell) (x : Cell) → n < length xs →
+    (p : Option Part) (m n : ℕ) (xs : List Cell) (x : Cell) → n < length xs →
     take (n + 1) (set (joined p m xs) n x) ≡ joined p m (take n xs) ++ x ∷ []
 stored_below p m n xs x h =
     take_more_set (joined p m xs) n x (omega (arith, length_joined p m xs))

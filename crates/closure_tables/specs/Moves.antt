@@ -1,5 +1,5 @@
 -- What each transition does to the tables. Assumes nothing.
-use Rattle.std.specs.Prelude.{ℕ, suc, ◌-◌, [], ◌∷◌, ◌++◌, length, get_or, take, Some, slice_index_or}
+use Rattle.std.specs.Prelude.{ℕ, suc, ◌-◌, [], ◌∷◌, ◌++◌, length, take, Some, slice_index_or}
 use Rattle.closure_tables.specs.Tables.{blank_argument, blank_entry, Tables}
 
 -- search: the right side is stacked with the chain in hand, and the left side is next
@@ -22,4 +22,4 @@ entered t = record {
 
 -- substitution: the argument of entry e is next
 abbrev pub fetched : ℕ → Tables → Tables
-fetched e t = record { cells = t.cells; entries = t.entries; stack = t.stack; hand = (get_or t.entries e blank_entry).argument }
+fetched e t = record { cells = t.cells; entries = t.entries; stack = t.stack; hand = (slice_index_or t.entries e blank_entry).argument }

@@ -1,5 +1,5 @@
 -- Positions of the standing term, by which it is looked at from its root down. Assumes nothing.
-use Rattle.std.specs.Prelude.{ℕ, zero, suc, ◌+◌, ◌-◌, ◌*◌, ◌/◌, ◌%◌, ◌^◌, Bool, cond, ◌&&◌, List, map, length, take, Some, None, Option, nat_le, nat_lt}
+use Rattle.std.specs.Prelude.{ℕ, zero, suc, ◌+◌, ◌-◌, ◌*◌, ◌/◌, ◌%◌, ◌^◌, Bool, if◌then◌else◌, ◌&&◌, List, map, length, take, Some, None, Option, nat_le, nat_lt}
 use Rattle.std.specs.Option.{option_map}
 use Rattle.term.specs.Terms as term
 use Rattle.term.specs.Terms.{Term}
@@ -33,7 +33,7 @@ abbrev pub spot_of : ℕ → Spot
 spot_of p = record { node = p % 65536; depth = p / 65536 % 65536; chain = front (p / 4294967296) }
 
 abbrev pub position_of : ℕ → Position
-position_of p = cond (nat_lt p first_spine) (Inside (spot_of p)) (Spine (p - first_spine))
+position_of p = if nat_lt p first_spine then Inside (spot_of p) else Spine (p - first_spine)
 
 -- where a closure begins
 abbrev pub closure_spot : Argument → Spot
@@ -54,9 +54,9 @@ last_depth = 65535
 -- A piece under d functions of its closure as a term. There is none where a place is free, as no index could be written for it,
 -- or where a part has no position.
 abbrev pub plugged_under : ℕ → List Term → Piece → Option Term
-plugged_under d ts (place k) = cond (nat_lt k d) (Some (term.place k)) None
+plugged_under d ts (place k) = if nat_lt k d then Some (term.place k) else None
 plugged_under d ts (ingredient i) = Some (term.ingredient i)
-plugged_under d ts (function p) = cond (nat_lt d last_depth) (option_map term.function (plugged_under (suc d) ts p)) None
+plugged_under d ts (function p) = if nat_lt d last_depth then option_map term.function (plugged_under (suc d) ts p) else None
 plugged_under d ts (application p q) = both term.application (plugged_under d ts p) (plugged_under d ts q)
 plugged_under d ts (filled j) = Some (numbered (term.ingredient 0) ts j)
 
@@ -72,14 +72,14 @@ abbrev pub entry_values : Tables → List Term
 entry_values t = values (presented t).entries
 
 abbrev pub term_inside : Tables → Spot → Option Term
-term_inside t s = cond (spot_inside t s) (plugged_under s.depth (entry_values t) (spot_piece t s)) None
+term_inside t s = if spot_inside t s then plugged_under s.depth (entry_values t) (spot_piece t s) else None
 
 -- the closure in hand applied to k arguments, where a term stands and so many are stacked
 abbrev pub term_on_spine : Tables → ℕ → Option Term
 term_on_spine t k =
-    cond (nat_lt 0 (length t.cells) && nat_le k (length t.stack))
-    (Some (applied_to (plugged (entry_values t) (presented t).hand) (take k (map (plugged (entry_values t)) (presented t).stack))))
-    None
+    if nat_lt 0 (length t.cells) && nat_le k (length t.stack)
+    then Some (applied_to (plugged (entry_values t) (presented t).hand) (take k (map (plugged (entry_values t)) (presented t).stack)))
+    else None
 
 abbrev pub term_of : Tables → Position → Option Term
 term_of t (Spine k) = term_on_spine t k

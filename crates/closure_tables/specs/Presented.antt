@@ -1,5 +1,5 @@
 -- The state of the abstract machine that tables present. Assumes nothing.
-use Rattle.std.specs.Prelude.{ℕ, zero, suc, ◌-◌, cond, List, [], ◌∷◌, map, reverse, length, get_or, Some, None, Option, ◌==◌, nat_lt, slice_index_or}
+use Rattle.std.specs.Prelude.{ℕ, zero, suc, ◌-◌, if◌then◌else◌, List, [], ◌∷◌, map, reverse, length, Some, None, Option, ◌==◌, nat_lt, slice_index_or}
 use Rattle.std.specs.List.{slice_get}
 use Rattle.machine.specs.Meanings.{Places}
 use Rattle.abstract_machine.specs.Pieces.{Piece, place, ingredient, function, application, filled}
@@ -20,7 +20,7 @@ height (Some e) = suc e
 abbrev pub chain_of : ℕ → List Entry → Option ℕ → List ℕ
 chain_of zero es c = []
 chain_of (suc n) es None = []
-chain_of (suc n) es (Some e) = e ∷ chain_of n es (get_or es e blank_entry).next
+chain_of (suc n) es (Some e) = e ∷ chain_of n es (slice_index_or es e blank_entry).next
 
 -- what a chain fills a place with that it reaches
 abbrev pub filled_by : Option ℕ → ℕ → Piece
@@ -29,7 +29,7 @@ filled_by (Some e) k = filled e
 
 -- a place under d functions of the piece: one of those functions' own, or one that the chain fills
 abbrev pub place_at : List ℕ → ℕ → ℕ → Piece
-place_at chain d k = cond (nat_lt k d) (place k) (filled_by (slice_get chain (k - d)) k)
+place_at chain d k = if nat_lt k d then place k else filled_by (slice_get chain (k - d)) k
 
 -- the piece whose first node is the cell at i, by the pieces further on
 abbrev pub cell_piece : (ℕ → ℕ → Piece) → List ℕ → ℕ → ℕ → Cell → Piece
@@ -62,7 +62,7 @@ presented t = record {
 
 -- a term stands where there are nodes
 abbrev pub loaded_in : Tables → Option Loaded
-loaded_in t = cond (length t.cells == 0) None (Some (record { size = length t.cells; state = presented t }))
+loaded_in t = if length t.cells == 0 then None else Some (record { size = length t.cells; state = presented t })
 
 abbrev pub configured : Places → Places → Tables → Configuration
 configured capacity used t = record { capacity = capacity; used = used; loaded = loaded_in t }

@@ -1,9 +1,9 @@
 -- The cells that a reading stores, and those of a term. Assumes nothing.
-use Rattle.std.specs.Prelude.{ℕ, suc, ◌+◌, ◌-◌, min, cond, List, [], ◌∷◌, ◌++◌, nat_lt, slice_set}
+use Rattle.std.specs.Prelude.{ℕ, suc, ◌+◌, ◌-◌, min, if◌then◌else◌, List, [], ◌∷◌, ◌++◌, Some, None, Option, nat_lt, slice_set}
 use Rattle.node.specs.declared.nodes.Node.{Node}
 use Rattle.node.specs.declared.nodes.Node.TheVariants.{Application, Function, Place, Ingredient}
 use Rattle.node.specs.declared.nodes.Part.{Part}
-use Rattle.node.specs.declared.nodes.Part.TheVariants.{Root, Left, Right, Body}
+use Rattle.node.specs.declared.nodes.Part.TheVariants.{Left, Right, Body}
 use Rattle.node.specs.declared.nodes.Located.{Located}
 use Rattle.term.specs.Terms.{Term, place, ingredient, function, application, size}
 use Rattle.closure_tables.specs.declared.rows.Cell.{Cell}
@@ -26,17 +26,18 @@ cell_of (Place k) = cell.Place (min k 255)
 cell_of (Ingredient i) = cell.Ingredient i
 
 -- the application whose right side begins at node number n learns that number
-abbrev pub joined : Part → ℕ → List Cell → List Cell
-joined Root n cells = cells
-joined (Left a) n cells = cells
-joined (Right a) n cells = slice_set cells a (cell.Application n)
-joined (Body f) n cells = cells
+abbrev pub joined : Option Part → ℕ → List Cell → List Cell
+joined None n cells = cells
+joined (Some (Left a)) n cells = cells
+joined (Some (Right a)) n cells = slice_set cells a (cell.Application n)
+joined (Some (Body f)) n cells = cells
 
 -- one node more, while there is room
 abbrev pub received : Received → Located → Received
 received r l =
-    cond (nat_lt 0 r.room)
-    (record { cells = joined l.part l.number r.cells ++ cell_of l.node ∷ []; room = r.room - 1 }) r
+    if nat_lt 0 r.room
+    then record { cells = joined l.part l.number r.cells ++ cell_of l.node ∷ []; room = r.room - 1 }
+    else r
 
 -- the cells of a term whose first node has number n, in the order of the code
 abbrev pub cells_of : ℕ → Term → List Cell

@@ -1,5 +1,5 @@
 -- What a closure machine keeps of its tables, as a test. Assumes nothing.
-use Rattle.std.specs.Prelude.{ℕ, suc, Bool, true, cond, ◌&&◌, List, [], ◌∷◌, length, ◌==◌, nat_le, nat_lt}
+use Rattle.std.specs.Prelude.{ℕ, suc, Bool, true, if◌then◌else◌, ◌&&◌, List, [], ◌∷◌, length, ◌==◌, nat_le, nat_lt}
 use Rattle.term.specs.Terms.{most_nodes}
 use Rattle.abstract_machine.specs.Soundness.{sound_state}
 use Rattle.closure_tables.specs.declared.rows.Cell.{Cell}
@@ -39,5 +39,6 @@ inside t =
 -- few nodes, nothing points outside, and the state that is presented is sound; nothing is asked where no term stands
 abbrev pub valid : Tables → Bool
 valid t =
-    cond (length t.cells == 0) true
-    (nat_le (length t.cells) most_nodes && (inside t && sound_state (length t.cells) (presented t)))
+    if length t.cells == 0
+    then true
+    else nat_le (length t.cells) most_nodes && (inside t && sound_state (length t.cells) (presented t))

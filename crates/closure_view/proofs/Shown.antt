@@ -1,5 +1,5 @@
 -- Looks at the closure machine's tables, row by row. Assumes nothing.
-use Rattle.std.proofs.Common.{◌≡◌, ℕ, ◌-◌, ◌^◌, ◌<◌, ◌≤◌, true, false, cond, ltb, length, get_or, Some, None, Option, sym, refl, ap, ◌∙◌, subst, arith}
+use Rattle.std.proofs.Common.{◌≡◌, ℕ, ◌-◌, ◌^◌, ◌<◌, ◌≤◌, true, false, cond, ltb, length, get_or, Some, None, Option, option_and_then, sym, refl, ap, ◌∙◌, subst, arith}
 use Rattle.std.proofs.lemmas.List.{get_or_default}
 use Rattle.std.proofs.lemmas.Bool.{ltb-true, ltb-false}
 use Rattle.std.specs.List.{slice_get}
@@ -22,7 +22,7 @@ use Rattle.closure_view.specs.declared.views.View.{View}
 use Rattle.closure_view.specs.Views.{tables_of}
 use Rattle.closure_view.specs.Links.{linked}
 use Rattle.closure_view.specs.Heads.{link_index, cell_head}
-use Rattle.closure_view.specs.Looks.{standing_at, Shows, ShowsOnSpine, LeadsTo}
+use Rattle.closure_view.specs.Looks.{standing_at, Shows, ShowsOnSpine}
 use Rattle.closure_view.proofs.Chains.{linked_is}
 
 -- a spot of a node and a chain that there are
@@ -40,14 +40,14 @@ held_at v s d h = at_read (tables_of v) s (get_or v.cells.now s.node d) d h.node
 -- cells that nothing fills
 
 module _ (t : Tables) (k : Kept t) (few : length t.entries < 2 ^ 31) (s : Spot) (deep : s.depth < 65536) where
-  function_head : At t s cell.Function → term_inside t s ≡ headed (term_at t) (cell_head s cell.Function)
+  function_head : At t s cell.Function → term_inside t s ≡ option_and_then (headed (term_at t)) (cell_head s cell.Function)
   function_head at =
-      elim (ltb s.depth last_depth) as (λ b. ltb s.depth last_depth ≡ b → term_inside t s ≡ headed (term_at t) (cond b (head.Function (spot_number (body_spot s))) head.Nothing)) [
+      elim (ltb s.depth last_depth) as (λ b. ltb s.depth last_depth ≡ b → term_inside t s ≡ option_and_then (headed (term_at t)) (cond b (Some (head.Function (spot_number (body_spot s)))) None)) [
         | true ↦ λ e. spots.function_looks t k s few (ltb-true _ _ e) at
         | false ↦ λ e. spots.deepest_looks t k s (ltb-false _ _ e) at
       ] refl
 
-  cell_looks : (x : Cell) → At t s x → link_index s.depth x ≡ None → term_inside t s ≡ headed (term_at t) (cell_head s x)
+  cell_looks : (x : Cell) → At t s x → link_index s.depth x ≡ None → term_inside t s ≡ option_and_then (headed (term_at t)) (cell_head s x)
   cell_looks (cell.Application r) at none = spots.application_looks t k s r few deep at
   cell_looks cell.Function at none = function_head at
   cell_looks (cell.Place j) at none =
@@ -59,14 +59,9 @@ module _ (t : Tables) (k : Kept t) (few : length t.entries < 2 ^ 31) (s : Spot) 
 
 pub leads_here :
     (v : View) (from s : Spot) (d : Cell) → term_inside (tables_of v) from ≡ term_inside (tables_of v) s → Held v s → s.depth < 65536 →
-    link_index s.depth (get_or v.cells.now s.node d) ≡ None → LeadsTo v from s (get_or v.cells.now s.node d)
+    link_index s.depth (get_or v.cells.now s.node d) ≡ None → Shows v from (cell_head s (get_or v.cells.now s.node d))
 leads_here v from s d same h deep none =
-    let k = held_kept v s h in
-    record {
-      node = omega (arith, h.node, k.few);
-      chain = omega (arith, h.chain, v.few);
-      head = same ∙ cell_looks (tables_of v) k v.few s deep (get_or v.cells.now s.node d) (held_at v s d h) none;
-    }
+    same ∙ cell_looks (tables_of v) (held_kept v s h) v.few s deep (get_or v.cells.now s.node d) (held_at v s d h) none
 
 -- a place to be filled
 
@@ -131,22 +126,21 @@ module _ (v : View) (s : Spot) (h : Held v s) where
 
 -- the spine
 
-pub hand_shows : (v : View) (k : ℕ) (s : Spot) (x : Head) → k ≡ 0 → s ≡ closure_spot v.hand → Shows v s x → ShowsOnSpine v k x
+pub hand_shows : (v : View) (k : ℕ) (s : Spot) (x : Option Head) → k ≡ 0 → s ≡ closure_spot v.hand → Shows v s x → ShowsOnSpine v k x
 hand_shows v k s x none here shows =
     ap (term_on_spine (tables_of v)) none ∙ spines.spine_hand (tables_of v) v.kept ∙ ap (term_inside (tables_of v)) (sym here) ∙ shows
 
-module _ (v : View) (k : ℕ) (a : Argument) (some : 0 < k) (few : k ≤ length v.stack.now) (read : a ≡ get_or v.stack.now (length v.stack.now - k) a) where
-  -- the last of the k nearest arguments
+-- the last of the k nearest arguments, as code reads it
+module _ (v : View) (k i : ℕ) (a : Argument) (at : (k ≤ length v.stack.now) × (i ≡ length v.stack.now - k)) (low : i < length v.stack.now) (read : a ≡ get_or v.stack.now i blank_argument) where
   last_is : a ≡ get_or v.stack.now (length v.stack.now - k) blank_argument
-  last_is = read ∙ get_or_default v.stack.now (length v.stack.now - k) a blank_argument (omega arith)
+  last_is = read ∙ ap (λ j. get_or v.stack.now j blank_argument) at.1
 
   pub last_chain : 0 < length v.cells.now → height a.chain < 2 ^ 31
   last_chain stands =
-      let inside = spines.taken_inside (tables_of v) (kept (tables_of v) stands v.kept) k some few in
+      let inside = spines.taken_inside (tables_of v) (kept (tables_of v) stands v.kept) k (omega (arith, at.1)) at.0 in
       omega (arith, inside.chain, ap (λ y. height y.chain) last_is, v.few)
 
-  pub last_shows : (x : Head) → x ≡ head.Application (spine_number (k - 1)) (spot_number (closure_spot a)) → ShowsOnSpine v k x
-  last_shows x is =
-      spines.spine_looks (tables_of v) k v.kept v.few some few
+  pub last_shows : ShowsOnSpine v k (Some (head.Application (spine_number (k - 1)) (spot_number (closure_spot a))))
+  last_shows =
+      spines.spine_looks (tables_of v) k v.kept v.few (omega (arith, at.1)) at.0
       ∙ ap (λ y. headed (standing_at v) (head.Application (spine_number (k - 1)) (spot_number (closure_spot y)))) (sym last_is)
-      ∙ ap (headed (standing_at v)) (sym is)

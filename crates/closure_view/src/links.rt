@@ -4,11 +4,8 @@ ghost use Rattle.closure_view.specs.Links.{linked};
 use closure_tables::Entry;
 
 // The entry that fills the place of that index, counted along a chain.
-pub fn link(entries: &[Entry], mut chain: Option<u32>, index: u8) -> Option<u32>
+pub fn link(entries: &[Entry], chain: Option<u32>, index: u8) -> Option<u32>
     ensures { result ≡ linked entries.now chain index }
 {
-    for _ in 0..index {
-        chain = entries.get(chain? as usize)?.next;
-    }
-    chain
+    (0..index).try_fold(chain?, |entry, _| entries.get(entry as usize)?.next)
 }

@@ -1,13 +1,13 @@
-ghost use Rattle.std.specs.Prelude.{◌≡◌, ◌-◌, ◌<◌, ◌≤◌, true, length, slice_index_or};
+ghost use Rattle.std.specs.Prelude.{◌≡◌, true};
 ghost use Rattle.closure_tables.specs.Positions.{root, spot_inside};
 ghost use Rattle.closure_view.specs.Views.{tables_of};
 ghost use Rattle.closure_view.specs.Looks.{standing_at, Shows, ShowsOnSpine, Resolved};
 
-use crate::heads::{applied_head, cell_head, closure_spot, link_index};
+use crate::heads::{Found, link_index};
 use crate::links::link;
-use crate::positions::{height, position_of, spine_number};
+use crate::positions::{height, position_of, spine_number, spot_number};
 use crate::views::View;
-use closure_tables::{Argument, Cell, Position, Spot};
+use closure_tables::{Position, Spot};
 use writer::{Head, Unfolding};
 
 impl View<'_> {
@@ -18,54 +18,47 @@ impl View<'_> {
         (spot.node as usize) < self.cells.len() && height(spot.chain) <= self.entries.len() as u64
     }
 
-    // Goes from a filled place to what fills it until nothing fills the cell; answers that spot and its cell. At a free place there is none.
-    fn resolve(&self, mut spot: Spot) -> Option<(Spot, Cell)>
+    // Goes from a filled place to what fills it until nothing fills the cell. At a free place nothing is found.
+    fn resolve(&self, mut spot: Spot) -> Option<Found>
         requires { spot_inside (tables_of self.now) spot ≡ true }
         ensures { Resolved self.now spot result }
     {
         loop {
             let cell = self.cells[spot.node as usize];
             let Some(index) = link_index(spot.depth, cell) else {
-                return Some((spot, cell));
+                return Some(Found { spot, cell });
             };
             let entry = link(self.entries, spot.chain, index)?;
-            spot = closure_spot(self.entries[entry as usize].argument);
+            spot = self.entries[entry as usize].argument.into();
         }
     }
 
     // The head at a spot.
-    fn look_inside(&self, spot: Spot) -> Head
+    fn look_inside(&self, spot: Spot) -> Option<Head>
         ensures { Shows self.now spot result }
     {
         if !self.holds(spot) {
-            return Head::Nothing;
+            return None;
         }
-        match self.resolve(spot) {
-            Some((spot, cell)) => cell_head(spot, cell),
-            None => Head::Nothing,
-        }
-    }
-
-    // The last of so many stacked arguments, the nearest first.
-    fn last_of(&self, taken: usize) -> Argument
-        requires some { 0 < taken }
-        requires stacked { taken ≤ length self.now.stack.now }
-        ensures { result ≡ slice_index_or self.now.stack.now (length self.now.stack.now - taken) result }
-    {
-        self.stack[self.stack.len() - taken]
+        self.resolve(spot)?.head()
     }
 
     // The head of the closure in hand applied to so many of the stacked arguments.
-    fn look_on_spine(&self, taken: usize) -> Head
+    fn look_on_spine(&self, taken: usize) -> Option<Head>
         ensures { ShowsOnSpine self.now taken result }
     {
-        if self.cells.len() == 0 || taken > self.stack.len() {
-            return Head::Nothing;
+        if self.cells.is_empty() {
+            return None;
         }
-        if taken == 0 {
-            return self.look_inside(closure_spot(self.hand));
+        let at = self.stack.len().checked_sub(taken)?;
+        match self.stack.get(at) {
+            // none is taken
+            None => self.look_inside(self.hand.into()),
+            Some(last) => Some(Head::Application {
+                left: spine_number(taken - 1),
+                right: spot_number(Spot::from(*last)),
+            }),
         }
-        applied_head(taken, self.last_of(taken))
     }
 
     // Where the whole of the standing term is found.
@@ -79,7 +72,7 @@ impl View<'_> {
 impl Unfolding for View<'_> {
     ghost term = { standing_at };
 
-    fn look(&self, position: u64) -> Head {
+    fn look(&self, position: u64) -> Option<Head> {
         match position_of(position) {
             Position::Inside(spot) => self.look_inside(spot),
             Position::Spine(taken) => self.look_on_spine(taken),

@@ -16,10 +16,7 @@ const FIRST_SPINE: u64 = 1 << 63;
 pub(crate) fn height(chain: Option<u32>) -> u64
     ensures { result ≡ height chain }
 {
-    match chain {
-        None => 0,
-        Some(entry) => entry as u64 + 1,
-    }
+    chain.map_or(0, |entry| entry as u64 + 1)
 }
 
 // The chain of a height.
@@ -32,14 +29,14 @@ fn front(height: u32) -> Option<u32>
 pub(crate) fn position_of(number: u64) -> Position
     ensures { result ≡ position_of number }
 {
-    if number >= FIRST_SPINE {
-        return Position::Spine((number - FIRST_SPINE) as usize);
+    match number.checked_sub(FIRST_SPINE) {
+        Some(taken) => Position::Spine(taken as usize),
+        None => Position::Inside(Spot {
+            node: (number % NODES) as u16,
+            depth: (number / NODES % DEPTHS) as u16,
+            chain: front((number / NODES / DEPTHS) as u32),
+        }),
     }
-    Position::Inside(Spot {
-        node: (number % NODES) as u16,
-        depth: (number / NODES % DEPTHS) as u16,
-        chain: front((number / NODES / DEPTHS) as u32),
-    })
 }
 
 pub(crate) fn spot_number(spot: Spot) -> u64

@@ -4,8 +4,8 @@ use Rattle.std.proofs.lemmas.List.{drop-append-le}
 use Rattle.std.proofs.lemmas.Bool.{cond_both}
 use Rattle.node.specs.declared.nodes.Node.{Node}
 use Rattle.node.specs.declared.nodes.Node.TheVariants.{Application, Function, Place, Ingredient}
-use Rattle.node.specs.declared.nodes.Spelling.{Spelling}
-use Rattle.node.specs.declared.nodes.Spelling.TheVariants.{Nothing, Unknown, Cut, Spelled}
+use Rattle.node.specs.declared.nodes.Misspelling.{Misspelling}
+use Rattle.node.specs.declared.nodes.Misspelling.TheVariants.{Nothing, Unknown, Cut}
 use Rattle.node.specs.declared.faults.Fault.{Fault}
 use Rattle.node.specs.declared.faults.Fault.TheVariants.{Missing, TooManyNodes, Leftover}
 use Rattle.node.specs.Faults.{number_of}
@@ -21,15 +21,15 @@ Firm (Ok x) = Unit {0}
 Firm (Err f) = number_of f ≡ 1 → ⊥
 
 -- a tag with what follows it, by the tests of the tag
-by_tag : Bool → Bool → Bool → Bool → Spelling → Spelling → Spelling
-by_tag a b c d place ingredient = cond a (Spelled Application) (cond b (Spelled Function) (cond c place (cond d ingredient Unknown)))
+by_tag : Bool → Bool → Bool → Bool → Result Node Misspelling → Result Node Misspelling → Result Node Misspelling
+by_tag a b c d place ingredient = cond a (Ok Application) (cond b (Ok Function) (cond c place (cond d ingredient (Err Unknown))))
 
 -- the tag is one of a node
-abbrev Known : Spelling → Type 0
-Known Nothing = ⊥
-Known Unknown = ⊥
-Known Cut = Unit {0}
-Known (Spelled node) = Unit {0}
+abbrev Known : Result Node Misspelling → Type 0
+Known (Err Nothing) = ⊥
+Known (Err Unknown) = ⊥
+Known (Err Cut) = Unit {0}
+Known (Ok node) = Unit {0}
 
 known_place : (bs : List ℕ) → Known (spell_place bs)
 known_place [] = tt
@@ -41,7 +41,7 @@ known_ingredient (h ∷ []) = tt
 known_ingredient (h ∷ l ∷ bs) = tt
 
 -- what follows a tag does not change whether the tag is known
-still_known : (a b c d : Bool) (p i q j : Spelling) → Known q → Known j → Known (by_tag a b c d p i) → Known (by_tag a b c d q j)
+still_known : (a b c d : Bool) (p i q j : Result Node Misspelling) → Known q → Known j → Known (by_tag a b c d p i) → Known (by_tag a b c d q j)
 unfolding by_tag
 still_known true b c d p i q j kq kj k = tt
 still_known false true c d p i q j kq kj k = tt
@@ -49,7 +49,7 @@ still_known false false true d p i q j kq kj k = kq
 still_known false false false true p i q j kq kj k = kj
 still_known false false false false p i q j kq kj k = absurd k
 
-still_unknown : (a b c d : Bool) (p i q j : Spelling) → Known p → Known i → by_tag a b c d p i ≡ Unknown → by_tag a b c d q j ≡ Unknown
+still_unknown : (a b c d : Bool) (p i q j : Result Node Misspelling) → Known p → Known i → by_tag a b c d p i ≡ Err Unknown → by_tag a b c d q j ≡ Err Unknown
 unfolding by_tag
 still_unknown true b c d p i q j kp ki e = absurd (subst Known e tt)
 still_unknown false true c d p i q j kp ki e = absurd (subst Known e tt)
@@ -63,49 +63,49 @@ known_more [] more k = absurd k
 known_more (t ∷ bs) more k =
     still_known (eqb t 1) (eqb t 2) (eqb t 3) (eqb t 4) (spell_place bs) (spell_ingredient bs) (spell_place (bs ++ more)) (spell_ingredient (bs ++ more)) (known_place (bs ++ more)) (known_ingredient (bs ++ more)) k
 
-unknown_more : (bs more : List ℕ) → spelling_of bs ≡ Unknown → spelling_of (bs ++ more) ≡ Unknown
+unknown_more : (bs more : List ℕ) → spelling_of bs ≡ Err Unknown → spelling_of (bs ++ more) ≡ Err Unknown
 unfolding by_tag
 unknown_more [] more e = let z : ◌≡◌ {A = ℕ} 0 1 = cc in absurd (omega arith)
 unknown_more (t ∷ bs) more e =
     still_unknown (eqb t 1) (eqb t 2) (eqb t 3) (eqb t 4) (spell_place bs) (spell_ingredient bs) (spell_place (bs ++ more)) (spell_ingredient (bs ++ more)) (known_place bs) (known_ingredient bs) e
 
-spelled_more : (bs more : List ℕ) (node : Node) → Spells node bs → spelling_of (bs ++ more) ≡ Spelled node
+spelled_more : (bs more : List ℕ) (node : Node) → Spells node bs → spelling_of (bs ++ more) ≡ Ok node
 spelled_more bs more Application h = ap (λ l. spelling_of (l ++ more)) h
 spelled_more bs more Function h = ap (λ l. spelling_of (l ++ more)) h
 spelled_more bs more (Place k) h = ap (λ l. spelling_of (l ++ more)) h
-spelled_more bs more (Ingredient i) h = ap (λ l. spelling_of (l ++ more)) h.3 ∙ ap (λ v. Spelled (Ingredient v)) (sym h.2)
+spelled_more bs more (Ingredient i) h = ap (λ l. spelling_of (l ++ more)) h.3 ∙ ap (λ v. Ok (Ingredient v)) (sym h.2)
 
 -- how the spelling at the front may change where bytes follow
-abbrev Grown : Spelling → Spelling → Type 0
-Grown Nothing q = Unit {0}
-Grown Unknown q = q ≡ Unknown
-Grown Cut q = Known q
-Grown (Spelled node) q = q ≡ Spelled node
+abbrev Grown : Result Node Misspelling → Result Node Misspelling → Type 0
+Grown (Err Nothing) q = Unit {0}
+Grown (Err Unknown) q = q ≡ Err Unknown
+Grown (Err Cut) q = Known q
+Grown (Ok node) q = q ≡ Ok node
 
-grown : (bs more : List ℕ) (p : Spelling) → spelling_of bs ≡ p → Grown p (spelling_of (bs ++ more))
-grown bs more Nothing e = tt
-grown bs more Unknown e = unknown_more bs more e
-grown bs more Cut e = known_more bs more (subst Known (sym e) tt)
-grown bs more (Spelled node) e = spelled_more bs more node (spells bs node e)
+grown : (bs more : List ℕ) (p : Result Node Misspelling) → spelling_of bs ≡ p → Grown p (spelling_of (bs ++ more))
+grown bs more (Err Nothing) e = tt
+grown bs more (Err Unknown) e = unknown_more bs more e
+grown bs more (Err Cut) e = known_more bs more (subst Known (sym e) tt)
+grown bs more (Ok node) e = spelled_more bs more node (spells bs node e)
 
-crowded : (end at n d : ℕ) (p : Spelling) → Known p → ltb n most_nodes ≡ false → judged end at n d p ≡ Err (TooManyNodes at)
-crowded end at n d Nothing k e = absurd k
-crowded end at n d Unknown k e = absurd k
-crowded end at n d Cut k e = rw e refl
-crowded end at n d (Spelled node) k e = rw e refl
+crowded : (end at n d : ℕ) (p : Result Node Misspelling) → Known p → ltb n most_nodes ≡ false → judged end at n d p ≡ Err (TooManyNodes at)
+crowded end at n d (Err Nothing) k e = absurd k
+crowded end at n d (Err Unknown) k e = absurd k
+crowded end at n d (Err Cut) k e = rw e refl
+crowded end at n d (Ok node) k e = rw e refl
 
 not_missing : {A : Type 0} {end : ℕ} {r : Result A Fault} {P : Type 0} → Err (Missing end) ≡ r → Firm r → P
 not_missing e f = absurd (subst Firm (sym e) f refl)
 
-judged_more : (end at n d k : ℕ) (p q : Spelling) (r : Result Node Fault) → Grown p q → judged end at n d p ≡ r → Firm r → judged (end + k) at n d q ≡ r
-judged_more end at n d k Nothing q r g e f = not_missing e f
-judged_more end at n d k Unknown q r g e f = ap (judged (end + k) at n d) g ∙ e
-judged_more end at n d k Cut q r g e f =
+judged_more : (end at n d k : ℕ) (p q : Result Node Misspelling) (r : Result Node Fault) → Grown p q → judged end at n d p ≡ r → Firm r → judged (end + k) at n d q ≡ r
+judged_more end at n d k (Err Nothing) q r g e f = not_missing e f
+judged_more end at n d k (Err Unknown) q r g e f = ap (judged (end + k) at n d) g ∙ e
+judged_more end at n d k (Err Cut) q r g e f =
     elim (ltb n most_nodes) as (λ b. ltb n most_nodes ≡ b → cond b (Err (Missing end)) (Err (TooManyNodes at)) ≡ r → judged (end + k) at n d q ≡ r) [
       | true ↦ λ b h. not_missing h f
       | false ↦ λ b h. crowded (end + k) at n d q g b ∙ h
     ] refl e
-judged_more end at n d k (Spelled node) q r g e f = ap (judged (end + k) at n d) g ∙ e
+judged_more end at n d k (Ok node) q r g e f = ap (judged (end + k) at n d) g ∙ e
 
 same_place : (end : ℕ) (bs more : List ℕ) → end + length more - length (bs ++ more) ≡ end - length bs
 same_place end bs more = omega (arith, length-append bs more)
@@ -167,11 +167,11 @@ missing_fitted end at d Function = cond_both (ltb d most_nested) _ _ (MissingAtE
 missing_fitted end at d (Place k) = cond_both (ltb k d) _ _ (MissingAtEnd end) (λ b. tt) (λ b h. absurd (omega arith))
 missing_fitted end at d (Ingredient i) = cond_both (leb i last_ingredient) _ _ (MissingAtEnd end) (λ b. tt) (λ b h. absurd (omega arith))
 
-missing_judged : (end at n d : ℕ) (p : Spelling) → MissingAtEnd end (judged end at n d p)
-missing_judged end at n d Nothing = λ h. refl
-missing_judged end at n d Unknown = λ h. absurd (omega arith)
-missing_judged end at n d Cut = cond_both (ltb n most_nodes) _ _ (MissingAtEnd end) (λ b h. refl) (λ b h. absurd (omega arith))
-missing_judged end at n d (Spelled node) =
+missing_judged : (end at n d : ℕ) (p : Result Node Misspelling) → MissingAtEnd end (judged end at n d p)
+missing_judged end at n d (Err Nothing) = λ h. refl
+missing_judged end at n d (Err Unknown) = λ h. absurd (omega arith)
+missing_judged end at n d (Err Cut) = cond_both (ltb n most_nodes) _ _ (MissingAtEnd end) (λ b h. refl) (λ b h. absurd (omega arith))
+missing_judged end at n d (Ok node) =
     cond_both (ltb n most_nodes) _ _ (MissingAtEnd end) (λ b. missing_fitted end at d node) (λ b h. absurd (omega arith))
 
 missing_stops : (end m n : ℕ) (s : Slot) (ss : List Slot) (bs : List ℕ) (f : Fault) → next end n s bs ≡ Err f → MissingAtEnd end (scan end m n (s ∷ ss) bs).ended

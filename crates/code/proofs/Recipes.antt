@@ -5,7 +5,6 @@ use Rattle.node.specs.declared.nodes.Node.{Node}
 use Rattle.node.specs.declared.nodes.Node.TheVariants.{Application, Function, Place, Ingredient}
 use Rattle.node.specs.declared.nodes.Located.{Located}
 use Rattle.term.specs.Terms.{Term, place, ingredient, function, application, size, code, most_nodes}
-use Rattle.node.specs.declared.nodes.Spelling.TheVariants.{Spelled}
 use Rattle.node.specs.Spell.{spelling_of}
 use Rattle.node.specs.Checks.{Fitting, admitted, judged}
 use Rattle.code.specs.Scans.{Slot, Scan, left_of, right_of, located, parts_of, scan}
@@ -33,7 +32,7 @@ same : {ls ls' : List Located} {k k' : ℕ} → ls ≡ ls' → k ≡ k' → ◌�
 same p q = λ i. record { handed = p i; ended = Ok (q i) }
 
 -- a node, and then the rest
-then : (end m n : ℕ) (s : Slot) (ss : List Slot) (bs : List ℕ) (node : Node) {ls : List Located} {k : ℕ} → spelling_of bs ≡ Spelled node → n < most_nodes → Fitting (length s.around) node → onward end m n s ss bs node ≡ record { handed = ls; ended = Ok k } → scan end (suc m) n (s ∷ ss) bs ≡ record { handed = located n s node ∷ ls; ended = Ok k }
+then : (end m n : ℕ) (s : Slot) (ss : List Slot) (bs : List ℕ) (node : Node) {ls : List Located} {k : ℕ} → spelling_of bs ≡ Ok node → n < most_nodes → Fitting (length s.around) node → onward end m n s ss bs node ≡ record { handed = ls; ended = Ok k } → scan end (suc m) n (s ∷ ss) bs ≡ record { handed = located n s node ∷ ls; ended = Ok k }
 then end m n s ss bs node e r f h =
     let d = length s.around in
     let admitted_here = ap (judged end (end - length bs) n d) e ∙ admits (end - length bs) n d node r f in
@@ -49,7 +48,7 @@ complete end (suc m) n (s ∷ ss) (place k ∷ ts) r f h =
     ∙ same (ap (λ x. located n s (Place k) ∷ layouts x ss ts) (let e : suc n ≡ n + 1 = omega arith in e)) (omega arith)
 complete end (suc m) n (s ∷ ss) (ingredient i ∷ ts) r f h =
     let value : 256 * (i / 256) + i % 256 ≡ i = omega arith in
-    then end m n s ss (flat_map code (ingredient i ∷ ts)) (Ingredient i) (ap (λ v. Spelled (Ingredient v)) value) (omega arith) f.0.stocked (complete end m (suc n) ss ts (omega arith) f.1 (omega arith))
+    then end m n s ss (flat_map code (ingredient i ∷ ts)) (Ingredient i) (ap (λ v. Ok (Ingredient v)) value) (omega arith) f.0.stocked (complete end m (suc n) ss ts (omega arith) f.1 (omega arith))
     ∙ same (ap (λ x. located n s (Ingredient i) ∷ layouts x ss ts) (let e : suc n ≡ n + 1 = omega arith in e)) (omega arith)
 complete end (suc m) n (s ∷ ss) (function t ∷ ts) r f h =
     let inner : Fit (suc (length s.around)) t = record { covered = f.0.covered; shallow = omega (arith, f.0.shallow); stocked = f.0.stocked } in

@@ -2,8 +2,8 @@
 use Rattle.std.proofs.Common.{◌≡◌, ℕ, zero, suc, ◌+◌, ◌*◌, ◌<◌, ◌≤◌, Bool, true, false, cond, eqb, ltb, ◌⊎◌, List, [], ◌∷◌, length, drop, Ok, Err, Result, sym, refl, ap, subst, inl, inr, ⊎_elim, arith, ltb-true, eqb-true, leb-true}
 use Rattle.node.specs.declared.nodes.Node.{Node}
 use Rattle.node.specs.declared.nodes.Node.TheVariants.{Application, Function, Place, Ingredient}
-use Rattle.node.specs.declared.nodes.Spelling.{Spelling}
-use Rattle.node.specs.declared.nodes.Spelling.TheVariants.{Nothing, Unknown, Cut, Spelled}
+use Rattle.node.specs.declared.nodes.Misspelling.{Misspelling}
+use Rattle.node.specs.declared.nodes.Misspelling.TheVariants.{Nothing, Unknown, Cut}
 use Rattle.node.specs.declared.faults.Fault.{Fault}
 use Rattle.term.specs.Terms.{most_nodes}
 use Rattle.node.specs.Spell.{spelling_of, spell_place, spell_ingredient, width_of}
@@ -24,19 +24,19 @@ fitted_ok at d Function m h = let p = test_passed _ _ _ _ h in (cc p.1, ltb-true
 fitted_ok at d (Place k) m h = let p = test_passed _ _ _ _ h in (cc p.1, ltb-true _ _ p.0)
 fitted_ok at d (Ingredient i) m h = let p = test_passed _ _ _ _ h in (cc p.1, leb-true _ _ p.0)
 
-pub record Admitted (n d : ℕ) (s : Spelling) (node : Node) : Type 0 where
-  pub spelled : s ≡ Spelled node
+pub record Admitted (n d : ℕ) (s : Result Node Misspelling) (node : Node) : Type 0 where
+  pub spelled : s ≡ Ok node
   pub room : n < most_nodes
   pub fitting : Fitting d node
 
-pub judged_ok : (end at n d : ℕ) (s : Spelling) (node : Node) → judged end at n d s ≡ Ok node → Admitted n d s node
-judged_ok end at n d Nothing node h = absurd (err_not_ok h)
-judged_ok end at n d Unknown node h = absurd (err_not_ok h)
-judged_ok end at n d Cut node h = absurd (err_not_ok (test_passed (ltb n most_nodes) _ _ _ h).1)
-judged_ok end at n d (Spelled m) node h =
+pub judged_ok : (end at n d : ℕ) (s : Result Node Misspelling) (node : Node) → judged end at n d s ≡ Ok node → Admitted n d s node
+judged_ok end at n d (Err Nothing) node h = absurd (err_not_ok h)
+judged_ok end at n d (Err Unknown) node h = absurd (err_not_ok h)
+judged_ok end at n d (Err Cut) node h = absurd (err_not_ok (test_passed (ltb n most_nodes) _ _ _ h).1)
+judged_ok end at n d (Ok m) node h =
     let p = test_passed (ltb n most_nodes) _ _ _ h in
     let q = fitted_ok at d m node p.1 in
-    record { spelled = ap Spelled q.0; room = ltb-true n most_nodes p.0; fitting = subst (Fitting d) q.0 q.1 }
+    record { spelled = ap Ok q.0; room = ltb-true n most_nodes p.0; fitting = subst (Fitting d) q.0 q.1 }
 
 -- the reading after node number n, and with that node
 abbrev pub onward : (end m n : ℕ) (s : Slot) (ss : List Slot) (bs : List ℕ) (node : Node) → Scan
@@ -60,29 +60,26 @@ way : {A : Type 0} (b : Bool) (x y z : A) → cond b x y ≡ z → ((b ≡ true)
 way true x y z h = inl (refl, h)
 way false x y z h = inr (refl, h)
 
-no_spelling : {node : Node} {P : Type 0} → Cut ≡ Spelled node → P
-no_spelling h = let z : ◌≡◌ {A = ℕ} 0 1 = cc in absurd (omega arith)
-
-same_node : {m n : Node} → Spelled m ≡ Spelled n → m ≡ n
+same_node : {m n : Node} → ◌≡◌ {A = Result Node Misspelling} (Ok m) (Ok n) → m ≡ n
 same_node h = cc
 
-spells_place : (bs : List ℕ) (node : Node) → spell_place bs ≡ Spelled node → Spells node (3 ∷ bs)
-spells_place [] node h = no_spelling h
+spells_place : (bs : List ℕ) (node : Node) → spell_place bs ≡ Ok node → Spells node (3 ∷ bs)
+spells_place [] node h = absurd (err_not_ok h)
 spells_place (k ∷ bs) node h = subst (λ n. Spells n (3 ∷ k ∷ bs)) (same_node h) refl
 
-spells_ingredient : (bs : List ℕ) (node : Node) → spell_ingredient bs ≡ Spelled node → Spells node (4 ∷ bs)
-spells_ingredient [] node h = no_spelling h
-spells_ingredient (high ∷ []) node h = no_spelling h
+spells_ingredient : (bs : List ℕ) (node : Node) → spell_ingredient bs ≡ Ok node → Spells node (4 ∷ bs)
+spells_ingredient [] node h = absurd (err_not_ok h)
+spells_ingredient (high ∷ []) node h = absurd (err_not_ok h)
 spells_ingredient (high ∷ low ∷ bs) node h = subst (λ n. Spells n (4 ∷ high ∷ low ∷ bs)) (same_node h) (high, low, refl, refl)
 
-pub spells : (bs : List ℕ) (node : Node) → spelling_of bs ≡ Spelled node → Spells node bs
-spells [] node h = let z : ◌≡◌ {A = ℕ} 0 1 = cc in absurd (omega arith)
+pub spells : (bs : List ℕ) (node : Node) → spelling_of bs ≡ Ok node → Spells node bs
+spells [] node h = absurd (err_not_ok h)
 spells (tag ∷ bs) node h =
     let as_tag : (n : ℕ) → eqb tag n ≡ true → Spells node (n ∷ bs) → Spells node (tag ∷ bs) = λ n e p. subst (λ t. Spells node (t ∷ bs)) (sym (eqb-true tag n e)) p in
     ⊎_elim (λ p. as_tag 1 p.0 (subst (λ n. Spells n (1 ∷ bs)) (same_node p.1) refl))
     (λ p. ⊎_elim (λ p. as_tag 2 p.0 (subst (λ n. Spells n (2 ∷ bs)) (same_node p.1) refl))
     (λ p. ⊎_elim (λ p. as_tag 3 p.0 (spells_place bs node p.1))
-    (λ p. ⊎_elim (λ p. as_tag 4 p.0 (spells_ingredient bs node p.1)) (λ p. let e = p.1 in let z : ◌≡◌ {A = ℕ} 0 1 = cc in absurd (omega arith)) (way (eqb tag 4) _ _ _ p.1))
+    (λ p. ⊎_elim (λ p. as_tag 4 p.0 (spells_ingredient bs node p.1)) (λ p. absurd (err_not_ok p.1)) (way (eqb tag 4) _ _ _ p.1))
     (way (eqb tag 3) _ _ _ p.1))
     (way (eqb tag 2) _ _ _ p.1))
     (way (eqb tag 1) _ _ _ h)

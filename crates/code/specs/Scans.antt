@@ -3,7 +3,7 @@ use Rattle.std.specs.Prelude.{ℕ, zero, suc, ◌-◌, List, [], ◌∷◌, leng
 use Rattle.node.specs.declared.nodes.Node.{Node}
 use Rattle.node.specs.declared.nodes.Node.TheVariants.{Application, Function, Place, Ingredient}
 use Rattle.node.specs.declared.nodes.Part.{Part}
-use Rattle.node.specs.declared.nodes.Part.TheVariants.{Root, Left, Right, Body}
+use Rattle.node.specs.declared.nodes.Part.TheVariants.{Left, Right, Body}
 use Rattle.node.specs.declared.nodes.Located.{Located}
 use Rattle.node.specs.declared.faults.Fault.{Fault}
 use Rattle.node.specs.declared.faults.Fault.TheVariants.{TooManyNodes, Leftover}
@@ -11,23 +11,24 @@ use Rattle.term.specs.Terms.{most_nodes}
 use Rattle.node.specs.Spell.{spelling_of, width_of}
 use Rattle.node.specs.Checks.{judged}
 
--- A slot is a part of the term that is still to come: which part it is, and the numbers of the functions around it, the nearest first.
+-- A slot is a part of the term that is still to come: which part of which node it is, none if it is the whole term,
+-- and the numbers of the functions around it, the nearest first.
 pub record Slot : Type 0 where
-  pub part : Part
+  pub part : Option Part
   pub around : List ℕ
 
 abbrev pub root : Slot
-root = record { part = Root; around = [] }
+root = record { part = None; around = [] }
 
 -- the slots of the parts of node number n, which stands in a slot itself
 abbrev pub left_of : ℕ → Slot → Slot
-left_of n s = record { part = Left n; around = s.around }
+left_of n s = record { part = Some (Left n); around = s.around }
 
 abbrev pub right_of : ℕ → Slot → Slot
-right_of n s = record { part = Right n; around = s.around }
+right_of n s = record { part = Some (Right n); around = s.around }
 
 abbrev pub body_of : ℕ → Slot → Slot
-body_of n s = record { part = Body n; around = n ∷ s.around }
+body_of n s = record { part = Some (Body n); around = n ∷ s.around }
 
 -- of a place, the number of its function
 abbrev pub binder_of : Node → List ℕ → Option ℕ

@@ -1,5 +1,5 @@
 -- The numbers in which the limits of a machine are stated. Assumes nothing.
-use Rattle.std.specs.Prelude.{◌≡◌, ℕ, zero, suc, ◌+◌, ◌*◌, cond, List, [], ◌∷◌, ◌==◌}
+use Rattle.std.specs.Prelude.{◌≡◌, ℕ, zero, suc, ◌+◌, ◌*◌, if◌then◌else◌, List, [], ◌∷◌, ◌==◌}
 use Rattle.machine.specs.declared.outcomes.Transition.{Transition}
 use Rattle.machine.specs.Outcomes.{transition_number}
 
@@ -15,7 +15,7 @@ Triangles = (n : ℕ) → 2 * triangle n ≡ n * (n + 1)
 -- how often a kind of transition occurs
 abbrev pub count_of : Transition → List Transition → ℕ
 count_of k [] = 0
-count_of k (j ∷ js) = cond (transition_number j == transition_number k) (suc (count_of k js)) (count_of k js)
+count_of k (j ∷ js) = if transition_number j == transition_number k then suc (count_of k js) else count_of k js
 
 -- what no table and no number of transitions exceeds where a term of s nodes has had b β transitions
 abbrev pub most_work : ℕ → ℕ → ℕ

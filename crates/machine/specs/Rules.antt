@@ -1,5 +1,5 @@
 -- The rules that the calls on a machine obey, as relations between what it means before and after. Assumes nothing.
-use Rattle.std.specs.Prelude.{◌≡◌, ℕ, suc, ◌+◌, ◌-◌, ◌<◌, ◌≤◌, cond, List, Some, None, Ok, Err, Result, nat_le, nat_lt}
+use Rattle.std.specs.Prelude.{◌≡◌, ℕ, suc, ◌+◌, ◌-◌, ◌<◌, ◌≤◌, if◌then◌else◌, List, Some, None, Ok, Err, Result, nat_le, nat_lt}
 use Rattle.node.specs.declared.faults.Fault.{Fault}
 use Rattle.term.specs.Terms.{Term, size}
 use Rattle.term.specs.Reduction.{Step}
@@ -16,7 +16,7 @@ use Rattle.machine.specs.Writing.{Written, written, left_alone}
 
 -- what a start answers of a code with that verdict, where no term stands
 abbrev pub sized : ℕ → Result ℕ Fault → Result ℕ MachineFault
-sized capacity (Ok s) = cond (nat_le s capacity) (Ok s) (Err refusal.TooLarge)
+sized capacity (Ok s) = if nat_le s capacity then Ok s else Err refusal.TooLarge
 sized capacity (Err f) = Err (refusal.Code f)
 
 abbrev pub start_of : List ℕ → Meaning → Result ℕ MachineFault
@@ -47,9 +47,9 @@ emptied m = record { capacity = m.capacity; free = m.capacity; standing = None }
 
 -- whether there are places for a transition
 abbrev pub afforded : Places → ℕ → Transition → Outcome
-afforded free price Beta = cond (nat_lt 0 free.entries) (Made Beta) (Full Entries)
-afforded free price Substitution = cond (nat_le price free.nodes) (Made Substitution) (Full Nodes)
-afforded free price Search = cond (nat_lt 0 free.stack) (Made Search) (Full Stack)
+afforded free price Beta = if nat_lt 0 free.entries then Made Beta else Full Entries
+afforded free price Substitution = if nat_le price free.nodes then Made Substitution else Full Nodes
+afforded free price Search = if nat_lt 0 free.stack then Made Search else Full Stack
 
 abbrev pub outcome_of : Places → ℕ → Due → Outcome
 outcome_of free price (transition k) = afforded free price k

@@ -1,5 +1,5 @@
 -- What a writer of codes answers and leaves in its buffers. Assumes nothing.
-use Rattle.std.specs.Prelude.{◌≡◌, ℕ, cond, List, ◌++◌, length, drop, replicate, Some, None, Ok, Err, Option, Result, nat_le, nat_lt}
+use Rattle.std.specs.Prelude.{◌≡◌, ℕ, if◌then◌else◌, List, ◌++◌, length, drop, replicate, Some, None, Ok, Err, Option, Result, nat_le, nat_lt}
 use Rattle.term.specs.Terms.{Term, code}
 use Rattle.machine.specs.declared.faults.MachineFault.{MachineFault}
 use Rattle.machine.specs.declared.faults.MachineFault.TheVariants.{ShortScratch, ShortOutput}
@@ -30,9 +30,9 @@ wiped output scratch = record { answer = Err ShortOutput; output = zeros output;
 -- bytes at the front of the output, where they fit it
 abbrev pub put_bytes : List ℕ → List ℕ → List ℕ → Written
 put_bytes bs output scratch =
-    cond (nat_le (length bs) (length output))
-    (record { answer = Ok (length bs); output = bs ++ drop (length bs) output; scratch = zeros scratch })
-    (wiped output scratch)
+    if nat_le (length bs) (length output)
+    then record { answer = Ok (length bs); output = bs ++ drop (length bs) output; scratch = zeros scratch }
+    else wiped output scratch
 
 -- the code of a term, or of nothing, which no output has room for
 abbrev pub put_code : Option Term → List ℕ → List ℕ → Written
@@ -42,4 +42,6 @@ put_code (Some t) output scratch = put_bytes (code t) output scratch
 -- the writing of a term with a scratch, which needs a place for each byte of the output
 abbrev pub written : Option Term → List ℕ → List ℕ → Written
 written t output scratch =
-    cond (nat_lt (length scratch) (length output)) (left_alone ShortScratch output scratch) (put_code t output scratch)
+    if nat_lt (length scratch) (length output)
+    then left_alone ShortScratch output scratch
+    else put_code t output scratch

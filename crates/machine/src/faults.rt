@@ -1,10 +1,13 @@
-ghost use Rattle.std.specs.Prelude.{◌≡◌};
+ghost use Rattle.std.specs.Prelude.{◌≡◌, Some};
+ghost use Rattle.std.specs.Fmt.{padded};
 ghost use Rattle.node.specs.declared.faults.Fault.{Fault};
 ghost use Rattle.machine.specs.declared.faults.MachineFault.{MachineFault};
 ghost use Rattle.machine.specs.declared.faults.MachineFault.TheVariants.{Code};
 ghost use Rattle.machine.specs.Faults.{machine_number, machine_name};
 
 use node::Fault;
+use std::error::Error;
+use std::fmt;
 
 // Why a call on a machine is refused.
 #[derive(Clone, Copy, PartialEq, Eq, Debug)]
@@ -24,19 +27,6 @@ pub enum MachineFault {
 }
 
 impl MachineFault {
-    pub fn number(&self) -> u8
-        ensures { result ≡ machine_number self.now }
-    {
-        match self {
-            MachineFault::Code(fault) => fault.number(),
-            MachineFault::TooLarge => 8,
-            MachineFault::Standing => 9,
-            MachineFault::Empty => 10,
-            MachineFault::ShortScratch => 12,
-            MachineFault::ShortOutput => 13,
-        }
-    }
-
     pub fn name(&self) -> &'static str
         ensures { result.now ≡ machine_name self.now }
     {
@@ -47,6 +37,34 @@ impl MachineFault {
             MachineFault::Empty => "nothing stands",
             MachineFault::ShortScratch => "scratch too short",
             MachineFault::ShortOutput => "output too short",
+        }
+    }
+}
+
+impl fmt::Display for MachineFault {
+    ghost output = { λ fault. Some (machine_name fault) };
+
+    ghost styled_output = { λ fault style. Some (padded style (machine_name fault)) };
+
+    fn fmt<W: fmt::Write>(&self, f: &mut fmt::Formatter<W>) -> fmt::Result {
+        f.pad(self.name())
+    }
+}
+
+impl Error for MachineFault {}
+
+// The number of a refusal.
+impl From<MachineFault> for u8 {
+    ghost from_gives = { λ fault number. number ≡ machine_number fault };
+
+    fn from(fault: MachineFault) -> u8 {
+        match fault {
+            MachineFault::Code(fault) => u8::from(fault),
+            MachineFault::TooLarge => 8,
+            MachineFault::Standing => 9,
+            MachineFault::Empty => 10,
+            MachineFault::ShortScratch => 12,
+            MachineFault::ShortOutput => 13,
         }
     }
 }

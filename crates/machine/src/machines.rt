@@ -8,16 +8,13 @@ use crate::outcomes::Outcome;
 
 // A machine that reduces the term that stands in it, one transition at a time.
 pub trait Machine {
-    // the number of its kind; in clauses `kind` stands for it, and generic code asks `kind_number`
+    // the number of its kind
     const KIND: u8;
 
-    ghost kind: { ℕ };
+    ghost KIND: { ℕ };
 
     // what a machine means to whoever uses it
     ghost meaning: { Self → Meaning };
-
-    fn kind_number() -> u8
-        ensures { result ≡ kind };
 
     // Takes a code and lets its term stand; answers the size.
     fn start(&mut self, code: &[u8]) -> Result<u16, MachineFault>

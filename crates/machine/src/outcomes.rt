@@ -1,5 +1,8 @@
-ghost use Rattle.std.specs.Prelude.{◌≡◌};
+ghost use Rattle.std.specs.Prelude.{◌≡◌, Some};
+ghost use Rattle.std.specs.Fmt.{padded};
 ghost use Rattle.machine.specs.Outcomes.{transition_number, transition_name, table_number, table_name};
+
+use std::fmt;
 
 // The kinds of transition.
 #[derive(Clone, Copy, PartialEq, Eq, Debug)]
@@ -13,16 +16,6 @@ pub enum Transition {
 }
 
 impl Transition {
-    pub fn number(&self) -> u8
-        ensures { result ≡ transition_number self.now }
-    {
-        match self {
-            Transition::Beta => 1,
-            Transition::Substitution => 2,
-            Transition::Search => 3,
-        }
-    }
-
     pub fn name(&self) -> &'static str
         ensures { result.now ≡ transition_name self.now }
     {
@@ -30,6 +23,29 @@ impl Transition {
             Transition::Beta => "beta",
             Transition::Substitution => "substitution",
             Transition::Search => "search",
+        }
+    }
+}
+
+impl fmt::Display for Transition {
+    ghost output = { λ transition. Some (transition_name transition) };
+
+    ghost styled_output = { λ transition style. Some (padded style (transition_name transition)) };
+
+    fn fmt<W: fmt::Write>(&self, f: &mut fmt::Formatter<W>) -> fmt::Result {
+        f.pad(self.name())
+    }
+}
+
+// The number of a kind of transition.
+impl From<Transition> for u8 {
+    ghost from_gives = { λ transition number. number ≡ transition_number transition };
+
+    fn from(transition: Transition) -> u8 {
+        match transition {
+            Transition::Beta => 1,
+            Transition::Substitution => 2,
+            Transition::Search => 3,
         }
     }
 }
@@ -43,16 +59,6 @@ pub enum Table {
 }
 
 impl Table {
-    pub fn number(&self) -> u8
-        ensures { result ≡ table_number self.now }
-    {
-        match self {
-            Table::Stack => 2,
-            Table::Entries => 3,
-            Table::Nodes => 4,
-        }
-    }
-
     pub fn name(&self) -> &'static str
         ensures { result.now ≡ table_name self.now }
     {
@@ -60,6 +66,29 @@ impl Table {
             Table::Stack => "stack",
             Table::Entries => "entries",
             Table::Nodes => "nodes",
+        }
+    }
+}
+
+impl fmt::Display for Table {
+    ghost output = { λ table. Some (table_name table) };
+
+    ghost styled_output = { λ table style. Some (padded style (table_name table)) };
+
+    fn fmt<W: fmt::Write>(&self, f: &mut fmt::Formatter<W>) -> fmt::Result {
+        f.pad(self.name())
+    }
+}
+
+// The number of a table.
+impl From<Table> for u8 {
+    ghost from_gives = { λ table number. number ≡ table_number table };
+
+    fn from(table: Table) -> u8 {
+        match table {
+            Table::Stack => 2,
+            Table::Entries => 3,
+            Table::Nodes => 4,
         }
     }
 }

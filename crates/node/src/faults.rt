@@ -1,5 +1,9 @@
-ghost use Rattle.std.specs.Prelude.{◌≡◌};
+ghost use Rattle.std.specs.Prelude.{◌≡◌, Some};
+ghost use Rattle.std.specs.Fmt.{padded};
 ghost use Rattle.node.specs.Faults.{number_of, name_of, byte_of};
+
+use std::error::Error;
+use std::fmt;
 
 // Why a code is no recipe. Each case holds its byte place, the byte of the code that a refusal points at.
 #[derive(Clone, Copy, PartialEq, Eq, Debug)]
@@ -14,20 +18,6 @@ pub enum Fault {
 }
 
 impl Fault {
-    pub fn number(&self) -> u8
-        ensures { result ≡ number_of self.now }
-    {
-        match self {
-            Fault::Missing { at: _ } => 1,
-            Fault::UnknownTag { at: _ } => 2,
-            Fault::TooManyNodes { at: _ } => 3,
-            Fault::TooDeep { at: _ } => 4,
-            Fault::Uncovered { at: _ } => 5,
-            Fault::NoSuchIngredient { at: _ } => 6,
-            Fault::Leftover { at: _ } => 7,
-        }
-    }
-
     pub fn name(&self) -> &'static str
         ensures { result.now ≡ name_of self.now }
     {
@@ -57,3 +47,32 @@ impl Fault {
         }
     }
 }
+
+// The number of a refusal.
+impl From<Fault> for u8 {
+    ghost from_gives = { λ fault number. number ≡ number_of fault };
+
+    fn from(fault: Fault) -> u8 {
+        match fault {
+            Fault::Missing { at: _ } => 1,
+            Fault::UnknownTag { at: _ } => 2,
+            Fault::TooManyNodes { at: _ } => 3,
+            Fault::TooDeep { at: _ } => 4,
+            Fault::Uncovered { at: _ } => 5,
+            Fault::NoSuchIngredient { at: _ } => 6,
+            Fault::Leftover { at: _ } => 7,
+        }
+    }
+}
+
+impl fmt::Display for Fault {
+    ghost output = { λ fault. Some (name_of fault) };
+
+    ghost styled_output = { λ fault style. Some (padded style (name_of fault)) };
+
+    fn fmt<W: fmt::Write>(&self, f: &mut fmt::Formatter<W>) -> fmt::Result {
+        f.pad(self.name())
+    }
+}
+
+impl Error for Fault {}

@@ -6,7 +6,7 @@ mod faults;
 mod nodes;
 mod spells;
 
-pub use checks::{LAST_INGREDIENT, admit, judge};
+pub use checks::{LAST_INGREDIENT, Site};
 pub use faults::Fault;
-pub use nodes::{Located, Node, Part, Spelling};
-pub use spells::{spell, width};
+pub use nodes::{Located, Misspelling, Node, Part};
+pub use spells::spell;

@@ -1,5 +1,5 @@
 -- The answer of a count. Assumes nothing.
-use Rattle.std.specs.Prelude.{ℕ, cond, List, Ok, Err, Result, nat_le}
+use Rattle.std.specs.Prelude.{ℕ, if◌then◌else◌, List, Ok, Err, Result, nat_le}
 use Rattle.node.specs.declared.faults.Fault.{Fault}
 use Rattle.term.specs.Terms.{occurrences, last_ingredient}
 use Rattle.code.specs.Verdicts.{Verdict, verdict, accepted, refused}
@@ -9,7 +9,7 @@ use Rattle.reading.specs.declared.counts.CountFault.TheVariants.{UnknownIngredie
 
 -- a counter of an ingredient that a recipe can have
 abbrev pub counter_of : ℕ → Result Counter CountFault
-counter_of i = cond (nat_le i last_ingredient) (Ok (record { ingredient = i; found = 0 })) (Err UnknownIngredient)
+counter_of i = if nat_le i last_ingredient then Ok (record { ingredient = i; found = 0 }) else Err UnknownIngredient
 
 -- how often the ingredient i occurs in a code with that verdict
 abbrev pub occurring : ℕ → Verdict → Result ℕ Fault

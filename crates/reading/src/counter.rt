@@ -2,19 +2,17 @@ ghost use Rattle.std.specs.Prelude.{◌≡◌};
 ghost use Rattle.node.specs.declared.nodes.Located.{Located};
 ghost use Rattle.reading.specs.declared.counter.Counter.{Counter};
 ghost use Rattle.reading.specs.Counters.{after_node};
-ghost use Rattle.code.specs.Verdicts.{verdict};
-ghost use Rattle.reading.specs.Counts.{occurring, counter_of};
+ghost use Rattle.reading.specs.Counts.{counter_of};
 
 use crate::counts::CountFault;
-use crate::reads::read;
 use crate::receiver::Receiver;
-use node::{Fault, LAST_INGREDIENT, Located, Node};
+use node::{LAST_INGREDIENT, Located, Node};
 
 // A receiver that counts the nodes that hold one ingredient.
 #[derive(Clone, Copy)]
 pub(crate) struct Counter {
     ingredient: u16,
-    found: u16,
+    pub(crate) found: u16,
 }
 
 impl Counter {
@@ -29,30 +27,17 @@ impl Counter {
             found: 0,
         })
     }
-
-    // How many nodes of a whole code hold the ingredient.
-    pub(crate) fn over(mut self, code: &[u8]) -> Result<u16, Fault>
-        requires { self.found ≡ 0 }
-        ensures { result ≡ occurring self.ingredient (verdict code.now) }
-    {
-        read(&mut self, &mut (), code)?;
-        Ok(self.found)
-    }
 }
 
 impl Receiver for Counter {
-    type Beside = ();
-
     ghost Held = { Counter };
 
-    ghost held = { λ c _. c };
+    ghost held = { λ c. c };
 
     ghost more = { after_node };
 
-    fn put(&mut self, _beside: &mut (), node: Located) {
-        if let Node::Ingredient(i) = node.node
-            && i == self.ingredient
-        {
+    fn put(&mut self, node: Located) {
+        if node.node == Node::Ingredient(self.ingredient) {
             self.found = self.found.saturating_add(1);
         }
     }

@@ -1,4 +1,5 @@
-ghost use Rattle.std.specs.Prelude.{◌≡◌};
+ghost use Rattle.std.specs.Prelude.{◌≡◌, Some};
+ghost use Rattle.std.specs.Fmt.{padded};
 ghost use Rattle.node.specs.declared.faults.Fault.{Fault};
 ghost use Rattle.reading.specs.declared.counts.CountFault.{CountFault};
 ghost use Rattle.reading.specs.declared.counts.CountFault.TheVariants.{Code};
@@ -6,7 +7,10 @@ ghost use Rattle.reading.specs.CountFaults.{count_number, count_name};
 ghost use Rattle.reading.specs.Counts.{counted};
 
 use crate::counter::Counter;
+use crate::reads::read;
 use node::Fault;
+use std::error::Error;
+use std::fmt;
 
 // Why a count is refused.
 #[derive(Clone, Copy, PartialEq, Eq, Debug)]
@@ -17,15 +21,6 @@ pub enum CountFault {
 }
 
 impl CountFault {
-    pub fn number(&self) -> u8
-        ensures { result ≡ count_number self.now }
-    {
-        match self {
-            CountFault::UnknownIngredient => 15,
-            CountFault::Code(fault) => fault.number(),
-        }
-    }
-
     pub fn name(&self) -> &'static str
         ensures { result.now ≡ count_name self.now }
     {
@@ -36,11 +31,35 @@ impl CountFault {
     }
 }
 
-impl From<Fault> for CountFault {
-    ghost from_gives = { λ f c. c ≡ Code f };
+// The number of a refusal.
+impl From<CountFault> for u8 {
+    ghost from_gives = { λ fault number. number ≡ count_number fault };
 
-    fn from(value: Fault) -> Self {
-        CountFault::Code(value)
+    fn from(fault: CountFault) -> u8 {
+        match fault {
+            CountFault::UnknownIngredient => 15,
+            CountFault::Code(fault) => u8::from(fault),
+        }
+    }
+}
+
+impl fmt::Display for CountFault {
+    ghost output = { λ fault. Some (count_name fault) };
+
+    ghost styled_output = { λ fault style. Some (padded style (count_name fault)) };
+
+    fn fmt<W: fmt::Write>(&self, f: &mut fmt::Formatter<W>) -> fmt::Result {
+        f.pad(self.name())
+    }
+}
+
+impl Error for CountFault {}
+
+impl From<Fault> for CountFault {
+    ghost from_gives = { λ fault count_fault. count_fault ≡ Code fault };
+
+    fn from(fault: Fault) -> Self {
+        CountFault::Code(fault)
     }
 }
 
@@ -48,7 +67,7 @@ impl From<Fault> for CountFault {
 pub fn count(code: &[u8], ingredient: u16) -> Result<u16, CountFault>
     ensures { result ≡ counted code.now ingredient }
 {
-    let counter = Counter::new(ingredient)?;
-    let found = counter.over(code)?;
-    Ok(found)
+    let mut counter = Counter::new(ingredient)?;
+    read(&mut counter, code)?;
+    Ok(counter.found)
 }

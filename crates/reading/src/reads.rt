@@ -5,7 +5,7 @@ ghost use Rattle.code.specs.Law.{ReadingLaw};
 
 use crate::frontier::{Frontier, Opening};
 use crate::receiver::Receiver;
-use node::{Fault, judge, spell, width};
+use node::{Fault, Site, spell};
 
 // The answer where nothing more is to come.
 fn finish(end: usize, number: u16, rest: &[u8]) -> Result<u16, Fault>
@@ -20,25 +20,30 @@ fn finish(end: usize, number: u16, rest: &[u8]) -> Result<u16, Fault>
 }
 
 // Reads a code left to right, gives the receiver each node that passes, and answers the size of the term or the first fault.
-pub fn read<R: Receiver>(
-    receiver: &mut R,
-    beside: &mut R::Beside,
-    code: &[u8],
-) -> Result<u16, Fault>
+pub fn read<R: Receiver>(receiver: &mut R, code: &[u8]) -> Result<u16, Fault>
     ensures answer { result ≡ told (verdict code.now) }
-    ensures held { R.held receiver.new beside.new ≡ fold R.more (R.held receiver.old beside.old) (handed_over code.now) }
+    ensures held { R.held receiver.new ≡ fold R.more (R.held receiver.old) (handed_over code.now) }
     ensures law { ReadingLaw code.now }
 {
     let mut frontier = Frontier::new();
-    let mut nearest = Some(Opening::root());
+    // the whole term
+    let mut nearest = Some(Opening {
+        part: None,
+        depth: 0,
+    });
     let mut number = 0;
     let mut rest = code;
     while let Some(opening) = nearest {
-        let at = code.len() - rest.len();
-        let node = judge(code.len(), at, number, opening.depth, spell(rest))?;
-        receiver.put(beside, frontier.locate(number, opening, node));
-        nearest = frontier.open(number, opening, node);
-        rest = &rest[width(node)..];
+        let site = Site {
+            at: code.len() - rest.len(),
+            number,
+            depth: opening.depth,
+        };
+        let node = site.judge(code.len(), spell(rest))?;
+        let located = frontier.locate(number, opening, node);
+        receiver.put(located);
+        nearest = frontier.open(located);
+        rest = &rest[node.width()..];
         number += 1;
     }
     finish(code.len(), number, rest)

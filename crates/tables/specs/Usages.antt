@@ -1,5 +1,5 @@
 -- How far tables are in use, and what changes that. Assumes nothing.
-use Rattle.std.specs.Prelude.{ℕ, ◌+◌, ◌-◌, cond, Some, None, Option, nat_lt}
+use Rattle.std.specs.Prelude.{ℕ, ◌+◌, ◌-◌, if◌then◌else◌, Some, None, Option, nat_lt}
 use Rattle.tables.specs.Limits.{node_limit, entry_limit, stack_limit, capacity_of}
 use Rattle.tables.specs.declared.levels.Level.{Level}
 use Rattle.tables.specs.declared.levels.Levels.{Levels}
@@ -28,15 +28,15 @@ unused c = record { used = 0; capacity = c }
 
 -- the lowest place that is free
 abbrev pub first_free : Usage → Option ℕ
-first_free u = cond (nat_lt u.used u.capacity) (Some u.used) None
+first_free u = if nat_lt u.used u.capacity then Some u.used else None
 
 -- with that place in use, if there is one
 abbrev pub one_more : Usage → Usage
-one_more u = record { used = cond (nat_lt u.used u.capacity) (u.used + 1) u.used; capacity = u.capacity }
+one_more u = record { used = if nat_lt u.used u.capacity then u.used + 1 else u.used; capacity = u.capacity }
 
 -- the highest place in use
 abbrev pub last_used : Usage → Option ℕ
-last_used u = cond (nat_lt 0 u.used) (Some (u.used - 1)) None
+last_used u = if nat_lt 0 u.used then Some (u.used - 1) else None
 
 -- with that place free, if there is one
 abbrev pub one_less : Usage → Usage

@@ -5,7 +5,7 @@ mod places;
 mod tables;
 
 // How many places of a table are in use, and how many it has. Those in use are the lowest.
-#[derive(Clone, Copy)]
+#[derive(Clone, Copy, PartialEq, Eq, Debug)]
 pub struct Level {
     used: usize,
     capacity: usize,
@@ -28,7 +28,7 @@ impl Level {
 }
 
 // The levels of the tables of one machine.
-#[derive(Clone, Copy)]
+#[derive(Clone, Copy, PartialEq, Eq, Debug)]
 pub struct Levels {
     pub nodes: Level,
     pub entries: Level,

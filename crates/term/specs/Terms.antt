@@ -1,5 +1,5 @@
 -- Terms of the lambda calculus with numbered places, and their codes. Assumes nothing.
-use Rattle.std.specs.Prelude.{ℕ, suc, ◌+◌, ◌/◌, ◌%◌, ◌<◌, ◌≤◌, max, cond, List, [], ◌∷◌, ◌++◌, ◌==◌}
+use Rattle.std.specs.Prelude.{ℕ, suc, ◌+◌, ◌/◌, ◌%◌, ◌<◌, ◌≤◌, max, if◌then◌else◌, List, [], ◌∷◌, ◌++◌, ◌==◌}
 
 -- A place is a bound variable by its de Bruijn index: a place of index k belongs to the function k further out than the nearest.
 -- An ingredient is a free variable. Functions and applications are the abstractions and applications of the calculus.
@@ -67,13 +67,13 @@ code (ingredient i) = 4 ∷ i / 256 ∷ i % 256 ∷ []
 -- how often the ingredient i occurs, inside functions as well
 abbrev pub occurrences : ℕ → Term → ℕ
 occurrences i (place k) = 0
-occurrences i (ingredient j) = cond (j == i) 1 0
+occurrences i (ingredient j) = if j == i then 1 else 0
 occurrences i (function t) = occurrences i t
 occurrences i (application t u) = occurrences i t + occurrences i u
 
 -- t with u put in the places of index i, counted from outside t; where u is closed, no index of it needs to shift
 abbrev pub fill : ℕ → Term → Term → Term
-fill i u (place k) = cond (k == i) u (place k)
+fill i u (place k) = if k == i then u else place k
 fill i u (ingredient j) = ingredient j
 fill i u (function t) = function (fill (suc i) u t)
 fill i u (application t v) = application (fill i u t) (fill i u v)

@@ -4,8 +4,9 @@
 use closure::Closure;
 use closure_tables::{Argument, Cell, Entry};
 use machine::{Machine, MachineFault, Outcome};
-use node::Fault;
 use reading::{count, read};
+use std::alloc::Global;
+use std::fmt::Display;
 use std::io;
 
 const PANTRY: [(&str, u16); 5] = [
@@ -23,7 +24,7 @@ const HOUSE_DOUGH: [u8; 34] = [
     0x00, 0x04,
 ];
 
-fn print_code(rt: &HostRuntime, code: &[u8]) -> io::Result<()> {
+fn print_code(rt: &impl Print, code: &[u8]) -> io::Result<()> {
     print!(rt; "  code")?;
     for byte in code {
         print!(rt; " {byte:02X}")?;
@@ -31,42 +32,48 @@ fn print_code(rt: &HostRuntime, code: &[u8]) -> io::Result<()> {
     println!(rt; "")
 }
 
-fn print_refusal(rt: &HostRuntime, fault: Fault) -> io::Result<()> {
-    let number = fault.number();
-    let name = fault.name();
-    let byte = fault.byte();
-    println!(rt; "  refused with {number}, {name}, at byte {byte}")
+// What was not done, with the number and the text of the refusal.
+fn print_refusal<F: Copy + Display + Into<u8>>(
+    rt: &impl Print,
+    what: &str,
+    fault: F,
+) -> io::Result<()> {
+    let number: u8 = fault.into();
+    print!(rt; "{what} {number}, {fault}")
 }
 
-fn print_verdict(rt: &HostRuntime, code: &[u8]) -> io::Result<()> {
-    match read(&mut (), &mut (), code) {
+fn print_verdict(rt: &impl Print, code: &[u8]) -> io::Result<()> {
+    match read(&mut (), code) {
         Ok(size) => println!(rt; "  a recipe of {size} nodes"),
-        Err(fault) => print_refusal(rt, fault),
+        Err(fault) => {
+            print_refusal(rt, "  refused with", fault)?;
+            println!(rt; ", at byte {}", fault.byte())
+        }
     }
 }
 
-fn print_counts(rt: &HostRuntime, code: &[u8]) -> io::Result<()> {
+fn print_counts(rt: &impl Print, code: &[u8]) -> io::Result<()> {
     for (name, ingredient) in PANTRY {
         match count(code, ingredient) {
             Ok(found) => println!(rt; "  {name}: {found}")?,
-            Err(refusal) => {
-                let number = refusal.number();
-                let why = refusal.name();
-                println!(rt; "  {name} not counted: {number}, {why}")?;
+            Err(fault) => {
+                print!(rt; "  {name} ")?;
+                print_refusal(rt, "not counted:", fault)?;
+                println!(rt; "")?;
             }
         }
     }
     Ok(())
 }
 
-fn print_recipe(rt: &HostRuntime) -> io::Result<()> {
+fn print_recipe(rt: &impl Print) -> io::Result<()> {
     println!(rt; "The house dough: butter, worked into a plain dough twice")?;
     print_code(rt, &HOUSE_DOUGH)?;
     print_verdict(rt, &HOUSE_DOUGH)?;
     print_counts(rt, &HOUSE_DOUGH)
 }
 
-fn print_damaged(rt: &HostRuntime) -> io::Result<()> {
+fn print_damaged(rt: &impl Print, heap: Global) -> io::Result<()> {
     println!(rt; "The same, cut short")?;
     print_verdict(rt, &HOUSE_DOUGH[0..33])?;
 
@@ -76,36 +83,31 @@ fn print_damaged(rt: &HostRuntime) -> io::Result<()> {
     print_verdict(rt, &unknown)?;
 
     println!(rt; "The same, with a byte left over")?;
-    let mut longer = [0; 35];
-    longer[0..34].copy_from_slice(&HOUSE_DOUGH);
+    let mut longer = HOUSE_DOUGH.to_vec(heap)?;
+    longer.push(0)?;
     print_verdict(rt, &longer)
 }
 
-fn print_machine_refusal(rt: &HostRuntime, fault: MachineFault) -> io::Result<()> {
-    let number = fault.number();
-    let name = fault.name();
-    println!(rt; "  refused with {number}, {name}")
+fn print_machine_refusal(rt: &impl Print, fault: MachineFault) -> io::Result<()> {
+    print_refusal(rt, "  refused with", fault)?;
+    println!(rt; "")
 }
 
 // Answers whether a transition was made.
-fn print_step<M: Machine>(rt: &HostRuntime, machine: &mut M) -> io::Result<bool> {
+fn print_step<M: Machine>(rt: &impl Print, machine: &mut M) -> io::Result<bool> {
     match machine.step() {
         Ok(Outcome::Made(transition)) => {
-            let name = transition.name();
-            println!(rt; "  {name}")?;
+            println!(rt; "  {transition}")?;
             return Ok(true);
         }
         Ok(Outcome::Done) => println!(rt; "  done")?,
-        Ok(Outcome::Full(table)) => {
-            let name = table.name();
-            println!(rt; "  full: {name}")?;
-        }
+        Ok(Outcome::Full(table)) => println!(rt; "  full: {table}")?,
         Err(fault) => print_machine_refusal(rt, fault)?,
     }
     Ok(false)
 }
 
-fn print_steps<M: Machine>(rt: &HostRuntime, machine: &mut M) -> io::Result<()> {
+fn print_steps<M: Machine>(rt: &impl Print, machine: &mut M) -> io::Result<()> {
     for _ in 0..100 {
         if !print_step(rt, machine)? {
             return Ok(());
@@ -114,22 +116,21 @@ fn print_steps<M: Machine>(rt: &HostRuntime, machine: &mut M) -> io::Result<()> 
     Ok(())
 }
 
-fn print_standing<M: Machine>(rt: &HostRuntime, machine: &M) -> io::Result<()> {
+fn print_standing<M: Machine>(rt: &impl Print, machine: &M) -> io::Result<()> {
     let mut output = [0; 64];
     let mut scratch = [0; 64];
     match machine.write(&mut output, &mut scratch) {
-        Ok(length) if length <= 64 => {
-            print_code(rt, &output[0..length])?;
-            print_counts(rt, &output[0..length])
+        Ok(length) => {
+            let code = output.get(0..length).unwrap_or(&[]);
+            print_code(rt, code)?;
+            print_counts(rt, code)
         }
-        Ok(_) => Ok(()),
         Err(fault) => print_machine_refusal(rt, fault),
     }
 }
 
-fn print_reduction<M: Machine>(rt: &HostRuntime, machine: &mut M) -> io::Result<()> {
-    let kind = M::kind_number();
-    println!(rt; "The house dough in a machine of kind {kind}")?;
+fn print_reduction<M: Machine>(rt: &impl Print, machine: &mut M) -> io::Result<()> {
+    println!(rt; "The house dough in a machine of kind {}", M::KIND)?;
     match machine.start(&HOUSE_DOUGH) {
         Ok(size) => println!(rt; "  started with {size} nodes")?,
         Err(fault) => print_machine_refusal(rt, fault)?,
@@ -140,9 +141,9 @@ fn print_reduction<M: Machine>(rt: &HostRuntime, machine: &mut M) -> io::Result<
 }
 
 fn main(rt: HostRuntime) -> io::Result<()> {
-    print_recipe(&rt)?;
-    print_damaged(&rt)?;
     let heap = rt.alloc();
+    print_recipe(&rt)?;
+    print_damaged(&rt, heap)?;
     let mut machine = Closure::new(
         [Cell::BLANK; 64].to_vec(heap)?,
         [Entry::BLANK; 16].to_vec(heap)?,

@@ -4,7 +4,7 @@ use reading::read;
 
 // The size of a code's term, or its fault.
 pub(crate) fn read_size(code: &[u8]) -> Result<u16, Fault> {
-    read(&mut (), &mut (), code)
+    read(&mut (), code)
 }
 
 #[test]
@@ -32,11 +32,11 @@ fn recipes_are_accepted(rt: HostRuntime) {
 
 #[test]
 fn faults_have_their_numbers(rt: HostRuntime) {
-    assert_eq!(rt; Fault::Missing { at: 0 }.number(), 1);
-    assert_eq!(rt; Fault::UnknownTag { at: 0 }.number(), 2);
-    assert_eq!(rt; Fault::TooManyNodes { at: 0 }.number(), 3);
-    assert_eq!(rt; Fault::TooDeep { at: 0 }.number(), 4);
-    assert_eq!(rt; Fault::Uncovered { at: 0 }.number(), 5);
-    assert_eq!(rt; Fault::NoSuchIngredient { at: 0 }.number(), 6);
-    assert_eq!(rt; Fault::Leftover { at: 0 }.number(), 7);
+    assert_eq!(rt; u8::from(Fault::Missing { at: 0 }), 1);
+    assert_eq!(rt; u8::from(Fault::UnknownTag { at: 0 }), 2);
+    assert_eq!(rt; u8::from(Fault::TooManyNodes { at: 0 }), 3);
+    assert_eq!(rt; u8::from(Fault::TooDeep { at: 0 }), 4);
+    assert_eq!(rt; u8::from(Fault::Uncovered { at: 0 }), 5);
+    assert_eq!(rt; u8::from(Fault::NoSuchIngredient { at: 0 }), 6);
+    assert_eq!(rt; u8::from(Fault::Leftover { at: 0 }), 7);
 }

@@ -24,6 +24,6 @@ fn the_ingredient_is_looked_at_first(rt: HostRuntime) {
         count(&[5], 4095),
         Err(CountFault::Code(Fault::UnknownTag { at: 0 }))
     );
-    assert_eq!(rt; CountFault::UnknownIngredient.number(), 15);
-    assert_eq!(rt; CountFault::Code(Fault::Leftover { at: 3 }).number(), 7);
+    assert_eq!(rt; u8::from(CountFault::UnknownIngredient), 15);
+    assert_eq!(rt; u8::from(CountFault::Code(Fault::Leftover { at: 3 })), 7);
 }

@@ -6,10 +6,8 @@ use node::Fault;
 fn largest() -> [u8; 8192] {
     let mut code = [1; 8192];
     code[0] = 2;
-    for i in 0..2048usize {
-        code[2048 + 3 * i] = 4;
-        code[2049 + 3 * i] = 0;
-        code[2050 + 3 * i] = 5;
+    for ingredient in code[2048..].chunks_exact_mut(3) {
+        ingredient.copy_from_slice(&[4, 0, 5]);
     }
     code
 }

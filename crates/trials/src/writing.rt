@@ -11,15 +11,14 @@ struct Doubling;
 impl Unfolding for Doubling {
     ghost term = { λ _. tree };
 
-    fn look(&self, position: u64) -> Head {
-        if position == 0 {
-            Head::Ingredient(261)
-        } else {
-            Head::Application {
-                left: position - 1,
-                right: position - 1,
-            }
-        }
+    fn look(&self, position: u64) -> Option<Head> {
+        Some(match position.checked_sub(1) {
+            None => Head::Ingredient(261),
+            Some(below) => Head::Application {
+                left: below,
+                right: below,
+            },
+        })
     }
 }
 
@@ -30,14 +29,14 @@ struct Samples;
 impl Unfolding for Samples {
     ghost term = { λ _. sample };
 
-    fn look(&self, position: u64) -> Head {
+    fn look(&self, position: u64) -> Option<Head> {
         match position {
-            0 => Head::Application { left: 1, right: 2 },
-            1 => Head::Function { body: 3 },
-            2 => Head::Ingredient(261),
-            3 => Head::Place(200),
-            4 => Head::Function { body: 5 },
-            _ => Head::Nothing,
+            0 => Some(Head::Application { left: 1, right: 2 }),
+            1 => Some(Head::Function { body: 3 }),
+            2 => Some(Head::Ingredient(261)),
+            3 => Some(Head::Place(200)),
+            4 => Some(Head::Function { body: 5 }),
+            _ => None,
         }
     }
 }

@@ -1,9 +1,9 @@
 -- What a look at a position shows. Assumes nothing.
-use Rattle.std.specs.Prelude.{◌≡◌, ℕ, Some, None, Option}
+use Rattle.std.specs.Prelude.{◌≡◌, ℕ, Some, None, Option, option_and_then}
 use Rattle.std.specs.Option.{option_map}
 use Rattle.term.specs.Terms.{Term, place, ingredient, function, application}
 use Rattle.writer.specs.declared.heads.Head.{Head}
-use Rattle.writer.specs.declared.heads.Head.TheVariants.{Application, Function, Place, Ingredient, Nothing}
+use Rattle.writer.specs.declared.heads.Head.TheVariants.{Application, Function, Place, Ingredient}
 
 abbrev pub both : {A B C : Type 0} → (A → B → C) → Option A → Option B → Option C
 both f None y = None
@@ -16,8 +16,7 @@ headed at (Application l r) = both application (at l) (at r)
 headed at (Function b) = option_map function (at b)
 headed at (Place k) = Some (place k)
 headed at (Ingredient i) = Some (ingredient i)
-headed at Nothing = None
 
--- h is the head of the term at position p
-abbrev pub Looks : (ℕ → Option Term) → ℕ → Head → Type 0
-Looks at p h = at p ≡ headed at h
+-- a look at position p shows r: the head of the term there, or that there is none
+abbrev pub Looks : (ℕ → Option Term) → ℕ → Option Head → Type 0
+Looks at p r = at p ≡ option_and_then (headed at) r

@@ -1,2 +1,3 @@
 pub mod Heads
+pub mod Pending
 pub mod Walks

@@ -2,6 +2,7 @@
 #![tactic(auto)]
 
 mod heads;
+mod pending;
 mod unfolding;
 mod writes;
 

@@ -9,6 +9,7 @@ pub trait Unfolding {
     // the term at a position, where the position and each one that it leads to name something
     ghost term: { Self → ℕ → Option Term };
 
-    fn look(&self, position: u64) -> Head
+    // None where the position names no term.
+    fn look(&self, position: u64) -> Option<Head>
         ensures { Looks (term self.now) position result };
 }

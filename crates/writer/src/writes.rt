@@ -1,59 +1,52 @@
-ghost use Rattle.std.specs.Prelude.{◌<◌, ◌≤◌, length};
+ghost use Rattle.std.specs.Prelude.{◌≡◌, ◌<◌, ◌≤◌, length};
 ghost use Rattle.machine.specs.Writing.{written, AfterWrite};
+ghost use Rattle.writer.specs.Pending.{waiting};
 ghost use Rattle.writer.specs.Walks.{own, AfterPut, AfterAdvance, AfterWalk};
 
 use crate::heads::Head;
+use crate::pending::Pending;
 use crate::unfolding::Unfolding;
 use machine::MachineFault;
 
-// Writes the bytes of a head itself from `at` on; answers where they end, if there are such bytes and room for them.
+// Puts bytes into the output from `at` on; answers where they end, if there is room for them.
+fn put_bytes<const N: usize>(output: &mut [u8], at: usize, bytes: [u8; N]) -> Option<usize>
+    requires { at ≤ length output.old }
+    ensures { AfterPut bytes.entry at output.old result output.new }
+{
+    let (_, room) = output.split_at_mut(at);
+    *room.first_chunk_mut()? = bytes;
+    Some(at + N)
+}
+
+// Writes the bytes of a head itself from `at` on; answers where they end, if there is room for them.
 fn put(output: &mut [u8], at: usize, head: Head) -> Option<usize>
     requires { at ≤ length output.old }
     ensures { AfterPut (own head) at output.old result output.new }
 {
-    let room = output.len() - at;
     match head {
-        Head::Application { left: _, right: _ } if room >= 1 => {
-            output[at] = 1;
-            Some(at + 1)
-        }
-        Head::Function { body: _ } if room >= 1 => {
-            output[at] = 2;
-            Some(at + 1)
-        }
-        Head::Place(index) if room >= 2 => {
-            output[at] = 3;
-            output[at + 1] = index;
-            Some(at + 2)
-        }
-        Head::Ingredient(number) if room >= 3 => {
+        Head::Application { .. } => put_bytes(output, at, [1]),
+        Head::Function { .. } => put_bytes(output, at, [2]),
+        Head::Place(index) => put_bytes(output, at, [3, index]),
+        Head::Ingredient(number) => {
             let [high, low] = number.to_be_bytes();
-            output[at] = 4;
-            output[at + 1] = high;
-            output[at + 2] = low;
-            Some(at + 3)
+            put_bytes(output, at, [4, high, low])
         }
-        _ => None,
     }
 }
 
 // Where the writing goes on behind a head: at its first part, or at the latest right side that is pending.
-fn advance(scratch: &mut [u64], pending: &mut usize, head: Head) -> Option<u64>
-    requires { pending.old < length scratch.old }
-    ensures { AfterAdvance head scratch.old pending.old result scratch.new pending.new }
+fn advance(pending: &mut Pending<'_>, head: Head) -> Option<u64>
+    requires { pending.old.count < length pending.old.places.now }
+    ensures ahead { AfterAdvance head (waiting pending.old) result (waiting pending.new) }
+    ensures room { length pending.new.places.now ≡ length pending.old.places.now }
 {
     match head {
         Head::Application { left, right } => {
-            scratch[*pending] = right;
-            *pending += 1;
+            pending.push(right);
             Some(left)
         }
         Head::Function { body } => Some(body),
-        _ if *pending > 0 => {
-            *pending -= 1;
-            Some(scratch[*pending])
-        }
-        _ => None,
+        Head::Place(_) | Head::Ingredient(_) => pending.pop(),
     }
 }
 
@@ -63,12 +56,12 @@ fn walk<U: Unfolding>(terms: &U, root: u64, output: &mut [u8], scratch: &mut [u6
     ensures { AfterWalk (U.term terms.now root) output.old result output.new }
 {
     let mut end = 0;
-    let mut pending = 0;
+    let mut pending = Pending::over(scratch);
     let mut next = Some(root);
     while let Some(position) = next {
-        let head = terms.look(position);
+        let head = terms.look(position)?;
         end = put(output, end, head)?;
-        next = advance(scratch, &mut pending, head);
+        next = advance(&mut pending, head);
     }
     Some(end)
 }

@@ -14,15 +14,11 @@ use machine::{Machine, MachineFault, Outcome};
 impl Machine for Closure {
     const KIND: u8 = 2;
 
-    ghost kind = { 2 };
+    ghost KIND = { 2 };
 
     ghost meaning = { meaning };
 
     ghost sound = { sound };
-
-    fn kind_number() -> u8 {
-        Self::KIND
-    }
 
     fn start(&mut self, code: &[u8]) -> Result<u16, MachineFault>
         ensures rules { AfterStart code.now (meaning self.old) result (meaning self.new) }
@@ -35,7 +31,7 @@ impl Machine for Closure {
         ensures rules { meaning self.new ≡ emptied (meaning self.old) }
         ensures after { configuration self.new ≡ vacated (configuration self.old) }
     {
-        self.vacate();
+        self.levels.reset();
     }
 
     fn due(&self) -> Result<Outcome, MachineFault>

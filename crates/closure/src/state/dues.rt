@@ -25,20 +25,12 @@ impl Closure {
     pub(crate) fn outcome(&self) -> Result<Outcome, MachineFault>
         ensures { result ≡ outcome_due (meaning self.now) }
     {
-        if self.levels.nodes.used() == 0 {
-            return Err(MachineFault::Empty);
-        }
-        Ok(match self.cell() {
+        Ok(match self.cell()? {
             Cell::Application { right: _ } => {
                 afford(&self.levels.stack, Transition::Search, Table::Stack)
             }
-            Cell::Function => {
-                if self.levels.stack.used() == 0 {
-                    Outcome::Done
-                } else {
-                    afford(&self.levels.entries, Transition::Beta, Table::Entries)
-                }
-            }
+            Cell::Function if self.levels.stack.used() == 0 => Outcome::Done,
+            Cell::Function => afford(&self.levels.entries, Transition::Beta, Table::Entries),
             Cell::Place(_) => Outcome::Made(Transition::Substitution),
             Cell::Ingredient(_) => Outcome::Done,
         })

@@ -1,10 +1,11 @@
 ghost use Rattle.std.specs.Prelude.{◌≡◌, vec_len};
 ghost use Rattle.machine.specs.Rules.{start_of};
-ghost use Rattle.abstract_machine.specs.Configurations.{vacated, started};
+ghost use Rattle.abstract_machine.specs.Configurations.{started};
 ghost use Rattle.closure_tables.specs.Presented.{no_price};
 ghost use Rattle.closure.specs.Views.{configuration, meaning, as_made};
 
-use crate::state::{Closure, Nodes};
+use crate::state::Closure;
+use crate::state::storing::Nodes;
 use closure_tables::{Argument, Cell, Entry};
 use machine::MachineFault;
 use reading::read;
@@ -17,19 +18,12 @@ impl Closure {
     {
         let levels = Levels::over(cells.len(), entries.len(), stack.len());
         Closure {
-            nodes: Nodes { cells },
+            cells,
             entries,
             stack,
             levels,
             hand: Argument::BLANK,
         }
-    }
-
-    // Frees every place.
-    pub(crate) fn vacate(&mut self)
-        ensures { configuration self.new ≡ vacated (configuration self.old) }
-    {
-        self.levels.reset();
     }
 
     // Reads a code into the table of nodes; however that is refused, the levels are put back.
@@ -44,7 +38,11 @@ impl Closure {
         let guard = Guard::over(&mut self.levels);
         let levels = &mut *guard.levels;
         levels.reset();
-        let size = read(&mut self.nodes, levels, code)?;
+        let mut nodes = Nodes {
+            cells: &mut self.cells,
+            level: &mut levels.nodes,
+        };
+        let size = read(&mut nodes, code)?;
         if size as usize > capacity {
             return Err(MachineFault::TooLarge);
         }

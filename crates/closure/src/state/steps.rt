@@ -1,4 +1,5 @@
-ghost use Rattle.std.specs.Prelude.{◌<◌, Ok};
+ghost use Rattle.std.specs.Prelude.{◌≡◌, ◌<◌, Ok, MatchResult};
+ghost use Rattle.machine.specs.declared.faults.MachineFault.TheVariants.{Empty};
 ghost use Rattle.closure_tables.specs.declared.rows.Cell.TheVariants.{Application, Function, Place};
 ghost use Rattle.closure_tables.specs.Steps.{StepsAs};
 ghost use Rattle.closure.specs.Views.{Hand, configuration};
@@ -11,7 +12,6 @@ use machine::{MachineFault, Outcome, Table, Transition};
 impl Closure {
     // Search: the right side waits, the left side is next.
     fn descend(&mut self, right: u16) -> Outcome
-        requires standing { 0 < self.old.levels.nodes.used }
         requires hand { Hand self.old (Application right) }
         ensures { StepsAs (configuration self.old) (Ok result) (configuration self.new) }
     {
@@ -28,21 +28,19 @@ impl Closure {
 
     // β: the nearest argument becomes an entry in front of the chain, and the body is next. Without an argument all is done.
     fn enter(&mut self) -> Outcome
-        requires standing { 0 < self.old.levels.nodes.used }
         requires hand { Hand self.old Function }
         ensures { StepsAs (configuration self.old) (Ok result) (configuration self.new) }
     {
-        if self.levels.stack.used() == 0 {
+        let waiting = &self.stack[..self.levels.stack.used()];
+        let Some(&argument) = waiting.last() else {
             return Outcome::Done;
-        }
+        };
         let Some(entry) = self.levels.entries.take() else {
             return Outcome::Full(Table::Entries);
         };
-        let Some(top) = self.levels.stack.release() else {
-            unreachable()
-        };
+        self.levels.stack.release();
         self.entries[entry] = Entry {
-            argument: self.stack[top],
+            argument,
             next: self.hand.chain,
         };
         self.hand = Argument {
@@ -54,11 +52,10 @@ impl Closure {
 
     // Substitution: what fills the place is next.
     fn fetch(&mut self, index: u8) -> Outcome
-        requires standing { 0 < self.old.levels.nodes.used }
         requires hand { Hand self.old (Place index) }
         ensures { StepsAs (configuration self.old) (Ok result) (configuration self.new) }
     {
-        let entries = &self.entries[0..self.levels.entries.used()];
+        let entries = &self.entries[..self.levels.entries.used()];
         let Some(entry) = link(entries, self.hand.chain, index) else {
             unreachable()
         };
@@ -66,22 +63,24 @@ impl Closure {
         Outcome::Made(Transition::Substitution)
     }
 
-    // The cell in hand.
-    pub(super) fn cell(&self) -> Cell
-        requires { 0 < self.now.levels.nodes.used }
-        ensures { Hand self.now result }
+    // The cell in hand, if a term stands.
+    pub(super) fn cell(&self) -> Result<Cell, MachineFault>
+        ensures { MatchResult result
+            (λ cell. (0 < self.now.levels.nodes.used) × Hand self.now cell)
+            (λ fault. (fault ≡ Empty) × (self.now.levels.nodes.used ≡ 0)) }
     {
-        self.nodes.cells[self.hand.node as usize]
+        let cells = &self.cells[..self.levels.nodes.used()];
+        cells
+            .get(self.hand.node as usize)
+            .copied()
+            .ok_or(MachineFault::Empty)
     }
 
     // Makes the transition due, if there is one and places for it.
     pub(crate) fn advance(&mut self) -> Result<Outcome, MachineFault>
         ensures { StepsAs (configuration self.old) result (configuration self.new) }
     {
-        if self.levels.nodes.used() == 0 {
-            return Err(MachineFault::Empty);
-        }
-        Ok(match self.cell() {
+        Ok(match self.cell()? {
             Cell::Application { right } => self.descend(right),
             Cell::Function => self.enter(),
             Cell::Place(index) => self.fetch(index),

@@ -1,47 +1,37 @@
 ghost use Rattle.std.specs.Prelude.{◌≡◌, vec_len};
 ghost use Rattle.node.specs.declared.nodes.Located.{Located};
-ghost use Rattle.tables.specs.declared.levels.Levels.{Levels};
-ghost use Rattle.closure_tables.specs.Received.{cell_of, joined};
+ghost use Rattle.closure_tables.specs.Received.{joined};
 ghost use Rattle.closure.specs.Stores.{Stored, stored_in, storing};
 
-use crate::state::Nodes;
 use closure_tables::Cell;
-use node::{Located, Node, Part};
+use node::{Located, Part};
 use reading::Receiver;
-use tables::Levels;
+use tables::Level;
 
-// A node as a cell. Where the right side of an application begins is not known yet.
-fn cell(node: Node) -> Cell
-    ensures { result ≡ cell_of node }
-{
-    match node {
-        Node::Application => Cell::Application { right: 0 },
-        Node::Function => Cell::Function,
-        Node::Place(index) => Cell::Place(index.min(255) as u8),
-        Node::Ingredient(number) => Cell::Ingredient(number),
-    }
+// The table of nodes, which holds them in the order of the code, and its level, lent while a code is read into them.
+#[derive(Drop)]
+pub(super) struct Nodes<'a> {
+    pub cells: &'a mut Vec<Cell>,
+    pub level: &'a mut Level,
 }
 
-impl Nodes {
+impl Nodes<'_> {
     // Tells an application that its right side begins at that node.
-    fn join(&mut self, part: Part, number: u16)
-        ensures cells { self.new.cells.items ≡ joined part number self.old.cells.items }
-        ensures len { vec_len self.new.cells ≡ vec_len self.old.cells }
+    fn join(&mut self, part: Option<Part>, number: u16)
+        ensures cells { self.new.cells.now.items ≡ joined part number self.old.cells.now.items }
+        ensures len { vec_len self.new.cells.now ≡ vec_len self.old.cells.now }
+        ensures lent { self.new.cells.ghost_name ≡ self.old.cells.ghost_name }
+        ensures level { self.new.level ≡ self.old.level }
     {
-        match part {
-            Part::Right(application) => {
-                if (application as usize) < self.cells.len() {
-                    self.cells[application as usize] = Cell::Application { right: number };
-                }
-            }
-            Part::Root | Part::Left(_) | Part::Body(_) => {}
+        if let Some(Part::Right(application)) = part
+            && let Some(cell) = self.cells.get_mut(application as usize)
+        {
+            *cell = Cell::Application { right: number };
         }
     }
 }
 
-impl Receiver for Nodes {
-    type Beside = Levels;
-
+impl Receiver for Nodes<'_> {
     ghost Held = { Stored };
 
     ghost held = { stored_in };
@@ -49,14 +39,14 @@ impl Receiver for Nodes {
     ghost more = { storing };
 
     // Past a full table nothing is stored: the reading goes on, since a fault of the code comes first.
-    fn put(&mut self, levels: &mut Levels, node: Located) {
-        if levels.nodes.used() >= self.cells.len() {
+    fn put(&mut self, node: Located) {
+        if self.level.used() >= self.cells.len() {
             return;
         }
-        let Some(at) = levels.nodes.take() else {
+        let Some(at) = self.level.take() else {
             return;
         };
         self.join(node.part, node.number);
-        self.cells[at] = cell(node.node);
+        self.cells[at] = Cell::from(node.node);
     }
 }

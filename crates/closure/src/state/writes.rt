@@ -20,9 +20,9 @@ impl Closure {
             return Err(MachineFault::Empty);
         }
         let view = View {
-            cells: &self.nodes.cells[0..self.levels.nodes.used()],
-            entries: &self.entries[0..self.levels.entries.used()],
-            stack: &self.stack[0..self.levels.stack.used()],
+            cells: &self.cells[..self.levels.nodes.used()],
+            entries: &self.entries[..self.levels.entries.used()],
+            stack: &self.stack[..self.levels.stack.used()],
             hand: self.hand,
         };
         write_code(&view, view.root(), output, scratch)

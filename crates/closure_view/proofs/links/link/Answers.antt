@@ -1,26 +1,14 @@
-use Rattle.std.proofs.Common.{◌+◌, ◌-◌, ◌≤◌, length, sym, ap, ◌∙◌, arith}
+use Rattle.std.proofs.Common.{◌≡◌, get_or, Some, None, sym, ap, ◌∙◌, arith, rules, tests}
+use Rattle.closure_tables.specs.Tables.{blank_entry}
 use Rattle.closure_view.specs.Links.{linked}
-use Rattle.closure_view.proofs.Chains.{linked_none, linked_next, linked_past}
+use Rattle.closure_view.proofs.Chains.{of_some, turned_out}
 use Rattle.closure_view.proofs.links.link.Goals as goal
 
-pub returns-in_err-chain : goal.returns-in_err-chain
-returns-in_err-chain c =
+pub returns : goal.returns
+returns c =
     let es = c.args.entries.now in
-    let left = c.args.index - c.loop.counter in
-    c.from_residual.ensures ∙ sym (linked_none es left) ∙ ap (λ o. linked es o left) (sym c.in_err-chain.was) ∙ c.loop.invariant
-
-pub returns-in_err-chain-2 : goal.returns-in_err-chain-2
-returns-in_err-chain-2 c =
-    let es = c.args.entries.now in
-    let e = c.in_ok-chain.field-0 in
-    let past : length es ≤ e = c.in_err-chain-2.ensures.lookup.3 in
-    c.from_residual-in_err-chain-2.ensures
-    ∙ sym (linked_past es c.loop.chain e (c.args.index - c.loop.counter) c.in_ok-chain.was past (omega arith))
-    ∙ c.loop.invariant
-
-pub loop-preserved : goal.loop-preserved
-loop-preserved c =
-    let found = c.in_ok-chain-2.ensures.lookup in
-    linked_next c.args.entries.now c.loop.chain c.in_ok-chain.field-0 (c.args.index - c.loop.counter) (c.args.index - (c.loop.counter + 1)) c.in_ok-chain-2.field-0.now
-    c.in_ok-chain.was (omega arith) found.3.0 found.1
-    ∙ c.loop.invariant
+    let run = c.try_fold.ensures.ran in
+    turned_out es _ _ (λ e x q turn. (search (rules, tests), let on : (get_or es e blank_entry).next ≡ Some q.1 = search (rules, tests) in on))
+    c.in_ok-chain.field-0 _ _ c.try_fold.result run.0 run.1 (run.2, run.3) (omega arith) run.4 run.5
+    (of_some _ _ _ run.1 run.6 (λ x broken. (broken.5, λ same. let off : (get_or es run.3 blank_entry).next ≡ None = search (rules, tests) in off)))
+    ∙ ap (λ o. linked es o c.args.index) (sym c.in_ok-chain.was)

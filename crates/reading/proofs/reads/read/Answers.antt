@@ -1,4 +1,4 @@
-use Rattle.std.proofs.Common.{◌≡◌, ℕ, ◌≤◌, List, length, get_or, drop, Some, Err, Option, Result, sym, ap, ◌∙◌, subst, subst₂, arith, w8, Fits, rules}
+use Rattle.std.proofs.Common.{◌≡◌, ℕ, ◌≤◌, List, length, get_or, drop, Err, Result, sym, refl, ap, ◌∙◌, subst, arith, w8, Fits, rules}
 use Rattle.std.proofs.lemmas.List.{take_rest}
 use Rattle.std.proofs.lemmas.Result.{err_from_is_err_and}
 use Rattle.node.specs.declared.faults.Fault.{Fault}
@@ -7,12 +7,11 @@ use Rattle.code.specs.Verdicts.{verdict, told, Bytes}
 use Rattle.code.specs.Law.{ReadingLaw}
 use Rattle.code.proofs.Exact.{answered}
 use Rattle.code.proofs.Lawful.{reading_law}
-use Rattle.reading.specs.declared.frontier.Opening.{Opening}
-use Rattle.reading.specs.Frontiers.{upcoming, Nested}
-use Rattle.reading.proofs.Loops.{root_upcoming, root_nested, Passed, passed, Underway, begins, last_ended, last_held, turned, stopped}
+use Rattle.reading.specs.Frontiers.{top_down, Falling}
+use Rattle.reading.proofs.Loops.{located_depth, located_fits, Passed, passed, begins, nearest_is, turned, stopped}
 use Rattle.reading.proofs.reads.read.Given as given
 use Rattle.reading.proofs.reads.read.Goals as goal
-use Rattle.reading.proofs.reads.read.Goals.{In-Some, In_ok-node}
+use Rattle.reading.proofs.reads.read.Goals.{In_ok-node}
 
 -- the promises, from the end of the reading
 promised : (code : List ℕ) → ((i : ℕ) → Fits w8 (get_or code i 0)) → {r : Result ℕ Fault} → r ≡ (reading code).ended → {P : Type 0} → P → record { answer : r ≡ told (verdict code); held : P; law : ReadingLaw code }
@@ -20,48 +19,33 @@ promised code fits e p =
     let b : Bytes code = λ i. (fits i).fits in
     record { answer = e ∙ answered code b; held = p; law = reading_law code b }
 
--- the invariant, with r for the nearest opening
-abbrev At : (g : given.Over) → In-Some g → Option Opening → Type 0
-At g c r =
-    Underway g.R.Receiver.more c.args.code.now (g.R.Receiver.held c.args.receiver.now c.args.beside.now) c.loop-nearest.number (upcoming r c.loop-nearest.frontier) c.loop-nearest.rest.now (g.R.Receiver.held c.loop-nearest.receiver c.loop-nearest.beside)
-
-abbrev Here : (g : given.Over) → In-Some g → Type 0
-Here g c = Nested (Some c.in-Some.opening) c.loop-nearest.frontier × At g c (Some c.in-Some.opening)
-
-here : (g : given.Over) (c : In-Some g) → Here g c
-here g c =
-    subst (λ r. Nested r c.loop-nearest.frontier × At g c r) c.in-Some.is (c.loop-nearest.invariant.1, c.loop-nearest.invariant.2)
-
 ok : (g : given.Over) (c : In_ok-node g) → Passed c.loop-nearest.number c.in-Some.opening.depth c.loop-nearest.rest.now c.in_ok-node.node
 ok g c = passed _ _ _ _ _ _ _ c.spell.ensures c.in_ok-node.ensures
 
 pub loop-nearest-init : goal.loop-nearest-init
-loop-nearest-init g c =
-    let start = g.R.Receiver.held c.args.receiver.now c.args.beside.now in
-    let none = c.new-frontier.ensures in
-    let whole = c.root.ensures in (
-      omega arith,
-      root_nested c.new-frontier.result _ none whole,
-      subst (λ ss. Underway g.R.Receiver.more c.args.code.now start 0 ss c.args.code.now start) (root_upcoming _ _ none whole) (begins _ _ _),
-    )
+loop-nearest-init g c = begins _ _ _ _ _ c.new-frontier.ensures refl
 
 pub returns-in_err-node : goal.returns-in_err-node
 returns-in_err-node g c =
+    let u = nearest_is _ c.in-Some.is c.loop-nearest.invariant in
     let p = err_from_is_err_and c.from_residual.result c.from_residual.ensures.1 in
-    let u = (here g (goal.at.returns-in_err-node g c).In-Some).1 in
-    let r = stopped g.R.Receiver.more c.loop-nearest.frontier c.in-Some.opening u c.spell.ensures _ c.in_err-node.ensures in
+    let r = stopped _ u c.spell.ensures _ c.in_err-node.ensures in
     promised c.args.code.now c.type_inv.code (p.1 ∙ ap Err p.2 ∙ r.0) r.1
 
-pub locate-requires : goal.locate-requires
-locate-requires g c =
-    let at = goal.at.locate-requires g c in
-    record { shallow = (here g at.In-Some).0.0; fitting = (ok g at.In_ok-node).fitting }
+pub locate-located-requires : goal.locate-located-requires
+locate-located-requires g c = (ok g (goal.at.locate-located-requires g c).In_ok-node).fitting
 
 pub open-nearest-requires : goal.open-nearest-requires
 open-nearest-requires g c =
-    let at = goal.at.open-nearest-requires g c in
-    let nested = (here g at.In-Some).0 in
-    record { few = omega (arith, (ok g at.In_ok-node).room); shallow = nested.0; fitting = (ok g at.In_ok-node).fitting; falling = nested.1 }
+    let u = nearest_is _ c.in-Some.is c.loop-nearest.invariant in
+    let passed = ok g (goal.at.open-nearest-requires g c).In_ok-node in
+    let deep = located_depth c.loop-nearest.frontier.binders c.in-Some.opening c.locate-located.ensures in
+    record {
+      few = omega (arith, u.few, passed.room);
+      shallow = omega (arith, deep);
+      fitting = located_fits c.loop-nearest.frontier.binders c.in-Some.opening c.locate-located.ensures passed.fitting;
+      falling = subst (λ d. Falling d (top_down c.loop-nearest.frontier)) (sym deep) u.nested;
+    }
 
 pub slice_bounds-rest-count : goal.slice_bounds-rest-count
 slice_bounds-rest-count g c = omega (arith, (ok g (goal.at.slice_bounds-rest-count g c).In_ok-node).wide)
@@ -76,13 +60,11 @@ loop-nearest-smaller g c = omega (arith, (ok g (goal.at.loop-nearest-smaller g c
 
 pub loop-nearest-preserved : goal.loop-nearest-preserved
 loop-nearest-preserved g c =
-    let opened = c.open-nearest.ensures in
-    let u = turned g.R.Receiver.more c.loop-nearest.frontier c.in-Some.opening (here g (goal.at.loop-nearest-preserved g c).In-Some).1 c.spell.ensures _ _ c.in_ok-node.ensures c.locate.ensures opened in
+    let u = nearest_is _ c.in-Some.is c.loop-nearest.invariant in
     let rest = take_rest c.loop-nearest.rest.now c.width.result ∙ ap (λ w. drop w c.loop-nearest.rest.now) c.width.ensures in
-    (omega (arith, opened.count), opened.nested, subst₂ (Underway g.R.Receiver.more _ _ _ _) (sym rest) (sym c.put.ensures) u)
+    turned _ u c.spell.ensures _ _ c.in_ok-node.ensures c.locate-located.ensures c.open-nearest.ensures rest c.put.ensures
 
 pub returns : goal.returns
 returns g c =
-    let none = ap (λ r. upcoming r c.loop-nearest.frontier) c.in_default.is in
-    let u = c.loop-nearest.invariant.2 in
-    promised c.args.code.now c.type_inv.code (c.finish.ensures ∙ last_ended _ u none) (last_held _ u none)
+    let u = nearest_is _ c.in_default.is c.loop-nearest.invariant in
+    promised c.args.code.now c.type_inv.code (c.finish.ensures ∙ u.ended) u.held

@@ -13,10 +13,10 @@ returns-in_err-entry c =
 pub bounds-self-entry : goal.bounds-self-entry
 bounds-self-entry c = entry_held c.args.self.now c.loop-index.spot c.loop-index.invariant.0 c.in-Some.index c.in_ok-entry.entry (sym c.in_ok-entry.ensures)
 
-next : (c : goal.After-closure_spot-spot) → Filler c.args.self.now c.loop-index.spot c.closure_spot-spot.result
+next : (c : goal.After-into-spot) → Filler c.args.self.now c.loop-index.spot c.into-spot.result
 next c =
-    fills c.args.self.now c.loop-index.spot c.loop-index.invariant.0 _ c.in-Some.index c.in_ok-entry.entry _ c.closure_spot-spot.result
-    (sym c.in-Some.ensures) (sym c.in_ok-entry.ensures) c.closure_spot-spot.ensures
+    fills c.args.self.now c.loop-index.spot c.loop-index.invariant.0 _ c.in-Some.index c.in_ok-entry.entry _ c.into-spot.result
+    (sym c.in-Some.ensures) (sym c.in_ok-entry.ensures) c.into-spot.ensures
 
 pub loop-index-smaller : goal.loop-index-smaller
 loop-index-smaller c = (next c).lower

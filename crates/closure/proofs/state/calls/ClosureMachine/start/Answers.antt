@@ -1,8 +1,5 @@
 use Rattle.closure.proofs.Rules.{after_start}
 use Rattle.closure.proofs.state.calls.ClosureMachine.start.Goals as goal
 
-pub returns : goal.returns
-returns c = record {
-  rules = after_start c.args.self.now c.begin.new.self c.args.code.now c.begin.result c.begin.ensures.answer c.begin.ensures.after;
-  after = c.begin.ensures.after;
-}
+pub returns-clause-rules : goal.returns-clause-rules
+returns-clause-rules c = after_start c.args.self.now c.begin.new.self c.args.code.now c.begin.result c.begin.ensures.answer c.begin.ensures.after

@@ -1,12 +1,12 @@
-use Rattle.std.proofs.Common.{◌≡◌, ap, arith}
+use Rattle.std.proofs.Common.{vec_len, ap, ◌∙◌, arith}
+use Rattle.tables.specs.Usages.{usage}
 use Rattle.closure.proofs.Storing.{stored_more}
 use Rattle.closure.proofs.state.storing.NodesReceiver.put.Goals as goal
 
 pub returns : goal.returns
 returns c =
-    let more = stored_more c.args.self.now c.args.levels.now c.take.new.self c.in-Some.at c.args.node (omega arith) c.in-Some.ensures.place c.take.ensures.level in
-    let cells = c.join.ensures.cells in
-    let len = c.join.ensures.len in
-    let cell = c.cell.ensures in
-    let capacity : c.take.new.self.capacity ≡ c.args.levels.now.nodes.capacity = ap (λ u. u.capacity) c.take.ensures.level in
-    cc
+    let joined = c.join.new.self in
+    let level = c.join.ensures.level in
+    stored_more c.args.self.now joined.level.now joined.cells.now.items (vec_len joined.cells.now) c.in-Some.at c.from.result c.args.node joined.cells.ghost_name joined.level.ghost_name
+    (omega arith) c.in-Some.ensures.place (ap (λ l. usage l.now) level ∙ c.take.ensures.level)
+    c.join.ensures.cells c.join.ensures.len c.from.ensures c.join.ensures.lent (ap (λ l. l.ghost_name) level)
