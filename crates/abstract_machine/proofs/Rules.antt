@@ -4,14 +4,15 @@ use Rattle.std.proofs.lemmas.Bool.{ltb-true, leb-true}
 use Rattle.term.specs.Terms.{Term, Closed, size}
 use Rattle.code.specs.Verdicts.{Bytes, Verdict, verdict, accepted, refused, told}
 use Rattle.code.proofs.Lawful.{reading_law}
+use Rattle.code.proofs.Lists.{size_some}
 use Rattle.machine.specs.declared.faults.MachineFault.TheVariants.{TooLarge}
-use Rattle.machine.specs.declared.outcomes.Transition.{Transition}
-use Rattle.machine.specs.declared.outcomes.Transition.TheVariants.{Beta, Substitution, Search}
+use Rattle.machine.specs.declared.transitions.Transition.{Transition}
+use Rattle.machine.specs.declared.transitions.Transition.TheVariants.{Beta, Substitution, Search}
 use Rattle.machine.specs.declared.outcomes.Table.TheVariants.{Stack, Entries, Nodes}
 use Rattle.machine.specs.declared.outcomes.Outcome.TheVariants.{Made, Full}
 use Rattle.machine.specs.Meanings.{Places, Due, transition, done, Standing, SoundStanding, Sound, Within, most_places}
 use Rattle.machine.specs.Rules.{sized, start_of, Stands, StartEffect, AfterStart, emptied, outcome_of, outcome_due, Moved, StepEffect, AfterStep}
-use Rattle.abstract_machine.specs.Pieces.{Piece, place, ingredient, function, application, filled, unfilled}
+use Rattle.abstract_machine.specs.Pieces.{Piece, place, ingredient, function, application, filled}
 use Rattle.abstract_machine.specs.States.{State, initial, due_of, due_at, next, unfolded}
 use Rattle.abstract_machine.specs.Soundness.{SoundState}
 use Rattle.abstract_machine.specs.Configurations.{Loaded, Configuration, free_of, standing_of, standing_in, explained, vacated, holding, after_start, started, used_by, advanced, after_step, stepped, SoundLoaded, SoundConfiguration, Affordable}
@@ -74,7 +75,7 @@ standing_in_sound :
     (price : State → ℕ) → Affordable price → (u : Places) (o : Option Loaded) →
     ((l : Loaded) → o ≡ Some l → SoundLoaded u l) →
     (s : Standing) → standing_in price o ≡ Some s → SoundStanding s
-standing_in_sound price afford u None h s e = let z : ◌≡◌ {A = ℕ} 0 1 = cc in absurd (omega arith)
+standing_in_sound price afford u None h s e = cc
 standing_in_sound price afford u (Some l) h s e =
     let same : standing_of price l ≡ s = cc in
     subst SoundStanding same (standing_sound price afford u l (h l refl))
@@ -243,9 +244,6 @@ pub step :
 step price x h = record { answer = refl; effect = step_effect price x.capacity x.used x.loaded h.within h.loaded }
 
 -- what is kept
-
-pub size_some : (t : Term) → 1 ≤ size t
-size_some t = omega (arith, pieces.weight_some (unfilled t), pieces.weight_unfilled t)
 
 holding_sound : (t : Term) (c u : Places) (o : Option Loaded) → Closed t → Within c most_places → size t ≤ c.nodes → SoundConfiguration (holding t (tables c u o))
 holding_sound t c u o closed limited le = record {

@@ -3,8 +3,8 @@ use Rattle.std.specs.Prelude.{◌≡◌, ℕ, suc, ◌+◌, ◌-◌, ◌≤◌, 
 use Rattle.term.specs.Terms.{Term, size}
 use Rattle.code.specs.Verdicts.{Verdict, verdict, accepted, refused}
 use Rattle.machine.specs.declared.faults.MachineFault.{MachineFault}
-use Rattle.machine.specs.declared.outcomes.Transition.{Transition}
-use Rattle.machine.specs.declared.outcomes.Transition.TheVariants.{Beta, Substitution, Search}
+use Rattle.machine.specs.declared.transitions.Transition.{Transition}
+use Rattle.machine.specs.declared.transitions.Transition.TheVariants.{Beta, Substitution, Search}
 use Rattle.machine.specs.declared.outcomes.Outcome.{Outcome}
 use Rattle.machine.specs.declared.outcomes.Outcome.TheVariants.{Made, Done, Full}
 use Rattle.machine.specs.Meanings.{Places, Standing, Meaning, Within, most_places}

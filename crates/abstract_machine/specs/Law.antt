@@ -3,7 +3,7 @@ use Rattle.std.specs.Prelude.{◌≡◌, ℕ, ◌<◌, ◌≤◌, List, length}
 use Rattle.term.specs.Terms.{Term, Closed, size}
 use Rattle.term.specs.Reduction.{Step, Normal}
 use Rattle.code.specs.Verdicts.{Bytes}
-use Rattle.machine.specs.declared.outcomes.Transition.TheVariants.{Beta, Substitution, Search}
+use Rattle.machine.specs.declared.transitions.Transition.TheVariants.{Beta, Substitution, Search}
 use Rattle.machine.specs.Meanings.{Due, transition, done, Sound}
 use Rattle.machine.specs.Rules.{AfterStart, start_of, AfterStep, outcome_due, emptied}
 use Rattle.abstract_machine.specs.Pieces.{Piece, weight, reach}

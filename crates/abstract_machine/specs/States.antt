@@ -2,7 +2,7 @@
 use Rattle.std.specs.Prelude.{ℕ, List, [], ◌∷◌, map, length}
 use Rattle.term.specs.Terms as term
 use Rattle.term.specs.Terms.{Term}
-use Rattle.machine.specs.declared.outcomes.Transition.TheVariants.{Beta, Substitution, Search}
+use Rattle.machine.specs.declared.transitions.Transition.TheVariants.{Beta, Substitution, Search}
 use Rattle.machine.specs.Meanings.{Due, transition, done}
 use Rattle.abstract_machine.specs.Pieces.{Piece, place, ingredient, function, application, filled, unfilled, opened, numbered, plugged}
 

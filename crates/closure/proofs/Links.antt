@@ -13,7 +13,7 @@ use Rattle.closure_tables.specs.declared.rows.Argument.{Argument}
 use Rattle.closure_tables.proofs.Moved as moved
 use Rattle.closure_tables.proofs.Agree as agree
 use Rattle.machine.specs.declared.outcomes.Outcome.TheVariants.{Made}
-use Rattle.machine.specs.declared.outcomes.Transition.TheVariants.{Substitution}
+use Rattle.machine.specs.declared.transitions.Transition.TheVariants.{Substitution}
 use Rattle.abstract_machine.specs.Configurations.{used_by}
 use Rattle.closure_tables.proofs.Kept.{argument_is}
 use Rattle.closure_view.specs.Links.{linked}

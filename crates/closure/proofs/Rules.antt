@@ -5,7 +5,7 @@ use Rattle.std.proofs.lemmas.Bool.{cond-true, le-leb}
 use Rattle.machine.specs.declared.faults.MachineFault.{MachineFault}
 use Rattle.machine.specs.declared.outcomes.Outcome.{Outcome}
 use Rattle.machine.specs.declared.outcomes.Outcome.TheVariants.{Made, Full}
-use Rattle.machine.specs.declared.outcomes.Transition.TheVariants.{Beta, Substitution}
+use Rattle.machine.specs.declared.transitions.Transition.TheVariants.{Beta, Substitution}
 use Rattle.machine.specs.declared.outcomes.Table.TheVariants.{Entries, Nodes}
 use Rattle.machine.specs.Meanings.{transition}
 use Rattle.machine.specs.Rules.{AfterStart, start_of, AfterStep, outcome_due}

@@ -1,5 +1,5 @@
 -- What a reading leaves in the closure machine's tables. Assumes nothing.
-use Rattle.std.proofs.Common.{◌≡◌, ℕ, ◌-◌, ◌<◌, ◌≤◌, min, true, leb, List, [], ◌∷◌, length, take, Some, None, Ok, Err, vec_items, vec_len, fold, sym, refl, ap, ◌∙◌, subst, arith, length-take-le}
+use Rattle.std.proofs.Common.{◌≡◌, ℕ, ◌-◌, ◌<◌, ◌≤◌, true, leb, List, [], ◌∷◌, length, take, Some, None, Ok, Err, vec_items, vec_len, fold, sym, refl, ap, ◌∙◌, subst, arith, length-take-le}
 use Rattle.std.proofs.lemmas.Bool.{cond-true, le-leb}
 use Rattle.term.specs.Terms.{Term, size}
 use Rattle.node.specs.declared.nodes.Located.{Located}
@@ -14,13 +14,14 @@ use Rattle.abstract_machine.specs.Configurations.{explained, holding, after_star
 use Rattle.tables.specs.declared.levels.Levels.{Levels}
 use Rattle.tables.specs.Limits.{entry_limit}
 use Rattle.tables.specs.Usages.{usages, freed}
+use Rattle.closure_tables.specs.declared.rows.Argument.{Argument}
 use Rattle.closure_tables.specs.Tables.{blank_argument, Tables, below}
 use Rattle.closure_tables.specs.Presented.{loaded_in, configured, no_price}
 use Rattle.closure_tables.specs.Valid.{valid}
 use Rattle.closure_tables.specs.Received as store
 use Rattle.closure_tables.specs.Received.{received, nothing_received}
 use Rattle.closure_tables.proofs.Agree.{loaded_some, loaded_none}
-use Rattle.abstract_machine.proofs.Rules.{size_some}
+use Rattle.code.proofs.Lists.{size_some}
 use Rattle.closure_tables.proofs.Started.{code_started}
 use Rattle.closure.specs.declared.state.storing.Nodes.{Nodes}
 use Rattle.closure.specs.declared.state.Closure.{Closure}
@@ -31,7 +32,6 @@ use Rattle.closure.proofs.Views.{cells_long}
 -- what is stored of nodes that are handed over, and that the loans are the same
 pub record Handed (s e : Stored) (ls : List Located) : Type 0 where
   pub code : e.code ≡ fold received s.code ls
-  pub long : e.long ≡ s.long
   pub capacity : e.capacity ≡ s.capacity
   pub cells_lent : s.cells_lent ≡ e.cells_lent
   pub level_lent : s.level_lent ≡ e.level_lent
@@ -39,20 +39,18 @@ pub record Handed (s e : Stored) (ls : List Located) : Type 0 where
 pub handed : (s e : Stored) (ls : List Located) → e ≡ fold storing s ls → Handed s e ls
 handed s e [] is = let same = sym is in record {
   code = ap (λ x. x.code) is;
-  long = ap (λ x. x.long) is;
   capacity = ap (λ x. x.capacity) is;
   cells_lent = ap (λ x. x.cells_lent) same;
   level_lent = ap (λ x. x.level_lent) same;
 }
 handed s e (l ∷ ls) is =
     let h = handed (storing s l) e ls is in
-    record { code = h.code; long = h.long; capacity = h.capacity; cells_lent = h.cells_lent; level_lent = h.level_lent }
+    record { code = h.code; capacity = h.capacity; cells_lent = h.cells_lent; level_lent = h.level_lent }
 
 -- the table of nodes of m as a reading begins, lent by those names
 abbrev pub lent : Closure → Levels → ℕ → ℕ → Stored
 lent m low cells_lent level_lent = record {
-  code = record { cells = take low.nodes.used (vec_items m.cells); room = min low.nodes.capacity (vec_len m.cells) - low.nodes.used };
-  long = vec_len m.cells;
+  code = record { cells = take low.nodes.used (vec_items m.cells); room = low.nodes.capacity - low.nodes.used };
   capacity = low.nodes.capacity;
   cells_lent = cells_lent;
   level_lent = level_lent;
@@ -69,7 +67,7 @@ pub record Reading (m : Closure) (low : Levels) (n : Nodes) (bs : List ℕ) : Ty
 
 -- so much is known however it ends, where the level of the nodes is the reading's and the others are as they were
 pub record Laid (m : Closure) (n : Nodes) (l : Levels) (bs : List ℕ) : Type 0 where
-  pub long : vec_len n.cells.now ≡ vec_len m.cells
+  pub long : l.nodes.capacity ≤ vec_len n.cells.now
   pub nodes : l.nodes.capacity ≡ m.levels.nodes.capacity
   pub entries : l.entries.capacity ≡ m.levels.entries.capacity
   pub stack : l.stack.capacity ≡ m.levels.stack.capacity
@@ -93,11 +91,11 @@ laid m low n l bs r up =
     let end = handed (lent m low r.cells_lent r.level_lent) (stored_in n) (handed_over bs) r.held in
     let none : low.nodes.used ≡ 0 = ap (λ u. u.nodes.used) r.freed in
     let capacity : low.nodes.capacity ≡ m.levels.nodes.capacity = ap (λ u. u.nodes.capacity) r.freed in
-    let room : min low.nodes.capacity (vec_len m.cells) - low.nodes.used ≡ m.levels.nodes.capacity = omega (arith, m.nodes_fit) in
+    let room : low.nodes.capacity - low.nodes.used ≡ m.levels.nodes.capacity = omega arith in
     let begun : (lent m low r.cells_lent r.level_lent).code ≡ nothing_received m.levels.nodes.capacity
     = let front : take low.nodes.used (vec_items m.cells) ≡ [] = ap (λ k. take k (vec_items m.cells)) none in cc in
     record {
-      long = end.long;
+      long = omega (arith, ap (λ x. x.capacity) up.nodes, n.fits);
       nodes = ap (λ x. x.capacity) up.nodes ∙ end.capacity ∙ capacity;
       entries = ap (λ x. x.capacity) up.entries ∙ ap (λ u. u.entries.capacity) r.freed;
       stack = ap (λ x. x.capacity) up.stack ∙ ap (λ u. u.stack.capacity) r.freed;
@@ -117,11 +115,18 @@ used_after l = record { stack = l.stack.used; entries = l.entries.used; nodes = 
 abbrev pub tables_after : Closure → Nodes → Levels → Tables
 tables_after m n l = below l.nodes.used (vec_items n.cells.now) l.entries.used (vec_items m.entries) l.stack.used (vec_items m.stack) blank_argument
 
+-- what a closure machine keeps, with the nodes and levels that a reading left to m
+pub record Upheld (m : Closure) (n : Nodes) (l : Levels) (hand : Argument) : Type 0 where
+  pub nodes : l.nodes.capacity ≤ vec_len n.cells.now
+  pub entries : l.entries.capacity ≤ vec_len m.entries
+  pub stack : l.stack.capacity ≤ vec_len m.stack
+  pub kept : valid (below l.nodes.used (vec_items n.cells.now) l.entries.used (vec_items m.entries) l.stack.used (vec_items m.stack) hand) ≡ true
+
 -- the code was accepted, and its nodes fit
 pub record Begun (m : Closure) (n : Nodes) (l : Levels) (bs : List ℕ) (s : ℕ) : Type 0 where
   pub answer : Ok s ≡ start_of bs (meaning m)
   pub after : configured (capacity_after l) (used_after l) (tables_after m n l) ≡ started no_price bs (configuration m)
-  pub kept : valid (tables_after m n l) ≡ true
+  pub upheld : Upheld m n l blank_argument
 
 idle_configuration : (m : Closure) → m.levels.nodes.used ≡ 0 → loaded_in (tables_of m) ≡ None
 idle_configuration m none = loaded_none (tables_of m) (cells_long m ∙ none)
@@ -140,7 +145,7 @@ begun_as m low n l bs t r up v fits =
     let d : take l.stack.used (vec_items m.stack) ≡ [] = ap (λ k. take k (vec_items m.stack)) lay.no_stack in
     cc in
     let used : l.nodes.used ≡ size t
-    = sym (length-take-le l.nodes.used (vec_items n.cells.now) (omega (arith, l.nodes.within, lay.nodes, lay.long, m.nodes_fit, n.cells.now.ok))) ∙ ap length lay.cells ∙ st.counted in
+    = sym (length-take-le l.nodes.used (vec_items n.cells.now) (omega (arith, l.nodes.within, lay.long, n.cells.now.ok))) ∙ ap length lay.cells ∙ st.counted in
     let some : 0 < length cells = omega (arith, st.counted, size_some t) in
     let standing : loaded_in (tables_after m n l) ≡ Some (record { size = size t; state = initial t })
     = ap loaded_in tables ∙ loaded_some (store.started cells) some ∙ (let a = st.counted in let b = st.presents in cc) in
@@ -155,7 +160,12 @@ begun_as m low n l bs t r up v fits =
     record {
       answer = sym answer;
       after = (let same : configured (capacity_after l) (used_after l) (tables_after m n l) ≡ holding t (configuration m) = cc in same) ∙ sym before;
-      kept = ap valid tables ∙ st.valid;
+      upheld = record {
+        nodes = lay.long;
+        entries = omega (arith, lay.entries, m.entries_fit);
+        stack = omega (arith, lay.stack, m.stack_fit);
+        kept = ap valid tables ∙ st.valid;
+      };
     }
 
 pub begun :
@@ -166,25 +176,20 @@ begun m low n l bs s r up answer fits =
       | accepted t ↦ λ v is.
           let same : size t ≡ s = cc in
           subst (Begun m n l bs) same (begun_as m low n l bs t r up v (omega arith))
-      | refused f ↦ λ v is. let z : ◌≡◌ {A = ℕ} 0 1 = cc in absurd (omega arith)
+      | refused f ↦ λ v is. cc
     ] refl answer
 
 -- refused: the levels are those of m again, below which there are no nodes
-pub record Restored (m : Closure) (n : Nodes) (l : Levels) : Type 0 where
-  pub nodes : l.nodes.capacity ≤ vec_len n.cells.now
-  pub entries : l.entries.capacity ≤ vec_len m.entries
-  pub stack : l.stack.capacity ≤ vec_len m.stack
-  pub kept : valid (below l.nodes.used (vec_items n.cells.now) l.entries.used (vec_items m.entries) l.stack.used (vec_items m.stack) m.hand) ≡ true
-
-pub restored : (m : Closure) (low : Levels) (n : Nodes) (bs : List ℕ) (back : Levels) → Reading m low n bs → back ≡ m.levels → Restored m n back
+pub restored : (m : Closure) (low : Levels) (n : Nodes) (bs : List ℕ) (back : Levels) → Reading m low n bs → back ≡ m.levels → Upheld m n back m.hand
 restored m low n bs back r is =
-    let long = (handed (lent m low r.cells_lent r.level_lent) (stored_in n) (handed_over bs) r.held).long in
-    let nodes = ap (λ x. x.nodes.capacity) is in
+    let end = handed (lent m low r.cells_lent r.level_lent) (stored_in n) (handed_over bs) r.held in
+    let nodes : back.nodes.capacity ≡ n.level.now.capacity
+    = ap (λ x. x.nodes.capacity) is ∙ sym (end.capacity ∙ ap (λ u. u.nodes.capacity) r.freed) in
     let entries = ap (λ x. x.entries.capacity) is in
     let stack = ap (λ x. x.stack.capacity) is in
     let none : back.nodes.used ≡ 0 = ap (λ x. x.nodes.used) is ∙ r.idle in
     record {
-      nodes = omega (arith, long, m.nodes_fit);
+      nodes = omega (arith, n.fits);
       entries = omega (arith, m.entries_fit);
       stack = omega (arith, m.stack_fit);
       kept = ap (λ k. valid (below k (vec_items n.cells.now) back.entries.used (vec_items m.entries) back.stack.used (vec_items m.stack) m.hand)) none;

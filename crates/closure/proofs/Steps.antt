@@ -5,7 +5,7 @@ use Rattle.std.proofs.lemmas.Option.{slice_get_within, slice_get_cases, get_or_f
 use Rattle.machine.specs.declared.faults.MachineFault.{MachineFault}
 use Rattle.machine.specs.declared.outcomes.Outcome.{Outcome}
 use Rattle.machine.specs.declared.outcomes.Outcome.TheVariants.{Made, Done, Full}
-use Rattle.machine.specs.declared.outcomes.Transition.TheVariants.{Beta, Search}
+use Rattle.machine.specs.declared.transitions.Transition.TheVariants.{Beta, Search}
 use Rattle.machine.specs.declared.outcomes.Table.TheVariants.{Stack, Entries}
 use Rattle.machine.specs.Meanings.{Places}
 use Rattle.abstract_machine.specs.Configurations.{Configuration, used_by}
@@ -152,7 +152,7 @@ stacked_none : (m : Closure) → nearest m ≡ None → length (tables_of m).sta
 stacked_none m none =
     let xs = (tables_of m).stack in
     elim (slice_get_cases xs (length xs - 1)).1 [
-      | inl (x, low, is, read) ↦ let z : ◌≡◌ {A = ℕ} 0 1 = cc in absurd (omega arith)
+      | inl (x, low, is, read) ↦ cc
       | inr past ↦ omega (arith, past.0)
     ]
 

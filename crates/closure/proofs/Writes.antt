@@ -1,5 +1,5 @@
 -- The code of the standing term is that of the term at the root of its tables. Assumes nothing.
-use Rattle.std.proofs.Common.{◌≡◌, ℕ, ◌^◌, ◌<◌, List, length, take, vec_items, sym, ap, ◌∙◌, arith}
+use Rattle.std.proofs.Common.{◌≡◌, ℕ, ◌<◌, List, take, vec_items, sym, ap, ◌∙◌}
 use Rattle.machine.specs.Writing.{written}
 use Rattle.machine.specs.Rules.{write_of}
 use Rattle.abstract_machine.specs.Configurations.{explained}
@@ -14,7 +14,6 @@ use Rattle.closure_tables.proofs.Agree.{loaded_some}
 use Rattle.closure_view.specs.Lent.{lent}
 use Rattle.closure.specs.declared.state.Closure.{Closure}
 use Rattle.closure.specs.Views.{tables_of, capacities, places_used, meaning}
-use Rattle.closure.specs.Soundness.{entries_long}
 use Rattle.closure.proofs.Steps.{standing}
 
 -- the tables as they are lent
@@ -22,10 +21,6 @@ pub lent_is :
     (m : Closure) (n b k : ℕ) (cells : List Cell) (entries : List Entry) (stack : List Argument) → n ≡ m.levels.nodes.used → b ≡ m.levels.entries.used → k ≡ m.levels.stack.used →
     cells ≡ vec_items m.cells → entries ≡ vec_items m.entries → stack ≡ vec_items m.stack → lent (take n cells) (take b entries) (take k stack) m.hand ≡ tables_of m
 lent_is m n b k cells entries stack en eb ek ecells eentries estack = cc
-
--- what a view asks of the tables that it lends
-pub lent_few : (m : Closure) (t : Tables) → t ≡ tables_of m → length t.entries < 2 ^ 31
-lent_few m t same = omega (arith, ap (λ x. length x.entries) same, entries_long m, m.levels.entries.within, m.levels.few)
 
 pub root_written :
     (m : Closure) (t : Tables) (p : ℕ) (output scratch : List ℕ) → 0 < m.levels.nodes.used → t ≡ tables_of m → p ≡ root t →

@@ -1,10 +1,11 @@
 -- Tables as configurations of the abstract machine: they are sound, and step as it does. Assumes nothing.
-use Rattle.std.proofs.Common.{◌≡◌, ℕ, ◌-◌, ◌<◌, ◌≤◌, true, false, eqb, length, Some, None, Ok, Result, sym, refl, ap, ◌∙◌, subst, arith, eq-eqb, ne_eqb, eqb-true}
+use Rattle.std.proofs.Common.{◌≡◌, ℕ, ◌-◌, ◌<◌, ◌≤◌, true, false, eqb, length, Some, None, Ok, Result, sym, refl, ap, ◌∙◌, subst, arith, eq-eqb, eqb-true}
+use Rattle.std.proofs.lemmas.Bool.Decides.{nat_tests}
 use borrow.Author.Tests.{eqb-false}
-use Rattle.std.proofs.lemmas.Bool.{cond-true, cond-false, lt-ltb, le-ltb, le-leb}
+use Rattle.std.proofs.lemmas.Bool.{cond-true, le-leb}
 use Rattle.machine.specs.declared.faults.MachineFault.{MachineFault}
-use Rattle.machine.specs.declared.outcomes.Transition.{Transition}
-use Rattle.machine.specs.declared.outcomes.Transition.TheVariants.{Beta, Substitution, Search}
+use Rattle.machine.specs.declared.transitions.Transition.{Transition}
+use Rattle.machine.specs.declared.transitions.Transition.TheVariants.{Beta, Substitution, Search}
 use Rattle.machine.specs.declared.outcomes.Table.{Table}
 use Rattle.machine.specs.declared.outcomes.Table.TheVariants.{Stack, Entries, Nodes}
 use Rattle.machine.specs.declared.outcomes.Outcome.{Outcome}
@@ -28,9 +29,7 @@ abbrev held : Places → Places → Tables → Configuration
 held c u t = record { capacity = c; used = u; loaded = Some (record { size = length t.cells; state = presented t }) }
 
 pub loaded_some : (t : Tables) → 0 < length t.cells → loaded_in t ≡ Some (record { size = length t.cells; state = presented t })
-loaded_some t h =
-    let apart : length t.cells ≡ 0 → ⊥ = omega arith in
-    cond-false (eqb (length t.cells) 0) None _ (ne_eqb (length t.cells) 0 apart)
+loaded_some t h = grind (arith, nat_tests)
 
 pub loaded_none : (t : Tables) → length t.cells ≡ 0 → loaded_in t ≡ None
 loaded_none t h = cond-true (eqb (length t.cells) 0) None (Some (record { size = length t.cells; state = presented t })) (eq-eqb (length t.cells) 0 h)
@@ -49,8 +48,7 @@ configured_sound c u t limited within stack entries ok = record { limited = limi
         elim (eqb (length t.cells) 0) as (λ b. eqb (length t.cells) 0 ≡ b → SoundLoaded u l) [
           | true ↦ λ e.
               let none = loaded_none t (eqb-true (length t.cells) 0 e) in
-              let z : ◌≡◌ {A = ℕ} 0 1 = cc in
-              absurd (omega arith)
+              cc
           | false ↦ λ e.
               let apart = eqb-false (length t.cells) 0 e in
               let some : 0 < length t.cells = omega arith in
@@ -81,57 +79,38 @@ pub made_as :
     (c u : Places) (t t' : Tables) (k : Transition) → 0 < length t.cells → length t'.cells ≡ length t.cells →
     due_of (presented t) ≡ transition k → afforded (free_of (configured c u t)) 0 k ≡ Made k → presented t' ≡ next (presented t) →
     StepsAs (configured c u t) (Ok (Made k)) (configured c (used_by k 0 u) t')
-made_as c u t t' k h long due fits is =
-    let u' = used_by k 0 u in
-    let moved : held c u' t' ≡ record { capacity = c; used = u'; loaded = Some (record { size = length t.cells; state = next (presented t) }) } = cc in
-    from_held c u t (Ok (Made k)) (configured c u' t') h
-    (after_of (held c u t) (configured c u' t') (Ok (Made k)) (outcome_is c u t (transition k) (Made k) due fits)
-    (held_is c u' t' (omega arith) ∙ moved))
+made_as c u t t' k h long due fits is = grind (arith, nat_tests, from_held, after_of, outcome_is, held_is)
 
 pub full_as :
     (c u : Places) (t : Tables) (k : Transition) (b : Table) → 0 < length t.cells →
     due_of (presented t) ≡ transition k → afforded (free_of (configured c u t)) 0 k ≡ Full b →
     StepsAs (configured c u t) (Ok (Full b)) (configured c u t)
-full_as c u t k b h due fits =
-    from_held c u t (Ok (Full b)) (configured c u t) h
-    (after_of (held c u t) (configured c u t) (Ok (Full b)) (outcome_is c u t (transition k) (Full b) due fits) (held_is c u t h))
+full_as c u t k b h due fits = grind (arith, nat_tests, from_held, after_of, outcome_is, held_is)
 
 pub done_as : (c u : Places) (t : Tables) → 0 < length t.cells → due_of (presented t) ≡ done → StepsAs (configured c u t) (Ok Done) (configured c u t)
-done_as c u t h due =
-    from_held c u t (Ok Done) (configured c u t) h
-    (after_of (held c u t) (configured c u t) (Ok Done) (outcome_is c u t done Done due refl) (held_is c u t h))
+done_as c u t h due = grind (arith, nat_tests, from_held, after_of, outcome_is, held_is)
 
 -- each transition, where its table has room and where it has none
 
 pub search_as :
     (c u : Places) (t : Tables) (r : ℕ) → 0 < length t.cells → valid t ≡ true → Hand t (cell.Application r) → u.stack < c.stack →
     StepsAs (configured c u t) (Ok (Made Search)) (configured c (used_by Search 0 u) (descended r t))
-search_as c u t r h ok is room =
-    let k = kept t h ok in
-    let some = lt-ltb 0 (c.stack - u.stack) (omega arith) in
-    made_as c u t (descended r t) Search h refl (search_due t k r is) (cond-true _ (Made Search) (Full Stack) some) (search_next t k r is)
+search_as c u t r h ok is room = grind (arith, nat_tests, kept, made_as, search_due, search_next)
 
 pub search_full_as :
     (c u : Places) (t : Tables) (r : ℕ) → 0 < length t.cells → valid t ≡ true → Hand t (cell.Application r) → c.stack ≤ u.stack →
     StepsAs (configured c u t) (Ok (Full Stack)) (configured c u t)
-search_full_as c u t r h ok is none =
-    let k = kept t h ok in
-    full_as c u t Search Stack h (search_due t k r is) (cond-false _ (Made Search) (Full Stack) (le-ltb 0 (c.stack - u.stack) (omega arith)))
+search_full_as c u t r h ok is none = grind (arith, nat_tests, kept, full_as, search_due)
 
 pub beta_as :
     (c u : Places) (t : Tables) → 0 < length t.cells → valid t ≡ true → Hand t cell.Function → 0 < length t.stack → u.entries < c.entries →
     StepsAs (configured c u t) (Ok (Made Beta)) (configured c (used_by Beta 0 u) (entered t))
-beta_as c u t h ok is some room =
-    let k = kept t h ok in
-    let free = lt-ltb 0 (c.entries - u.entries) (omega arith) in
-    made_as c u t (entered t) Beta h refl (beta_due t k is some) (cond-true _ (Made Beta) (Full Entries) free) (beta_next t k is some)
+beta_as c u t h ok is some room = grind (arith, nat_tests, kept, made_as, beta_due, beta_next)
 
 pub beta_full_as :
     (c u : Places) (t : Tables) → 0 < length t.cells → valid t ≡ true → Hand t cell.Function → 0 < length t.stack → c.entries ≤ u.entries →
     StepsAs (configured c u t) (Ok (Full Entries)) (configured c u t)
-beta_full_as c u t h ok is some none =
-    let k = kept t h ok in
-    full_as c u t Beta Entries h (beta_due t k is some) (cond-false _ (Made Beta) (Full Entries) (le-ltb 0 (c.entries - u.entries) (omega arith)))
+beta_full_as c u t h ok is some none = grind (arith, nat_tests, kept, full_as, beta_due)
 
 pub substitution_as :
     (c u : Places) (t : Tables) (j e : ℕ) → 0 < length t.cells → valid t ≡ true → Hand t (cell.Place j) → slice_get (hand_chain t) j ≡ Some e →

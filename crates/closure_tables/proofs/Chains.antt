@@ -1,5 +1,6 @@
 -- Chains of entries. Assumes nothing.
 use Rattle.std.proofs.Common.{◌≡◌, ℕ, zero, suc, ◌<◌, ◌≤◌, List, ◌∷◌, get_or, Some, None, Option, refl, ap, ◌∙◌, arith}
+use Rattle.std.proofs.lemmas.Bool.Decides.{nat_tests}
 use Rattle.std.specs.List.{slice_get}
 use Rattle.closure_tables.specs.declared.rows.Entry.{Entry}
 use Rattle.closure_tables.specs.Tables.{blank_entry}
@@ -31,15 +32,12 @@ chain_agree (suc m) (suc n) es fs (Some e) hm hn fall same =
 
 -- the chain that begins at entry e
 pub chain_cons : (es : List Entry) (e : ℕ) → Falling es (suc e) → chain_in es (Some e) ≡ e ∷ chain_in es (get_or es e blank_entry).next
-chain_cons es e fall =
-    let c = (get_or es e blank_entry).next in
-    let low : height c ≤ e = fall e (omega arith) in
-    ap (λ r. e ∷ r) (chain_agree e (height c) es es c low (omega arith) (λ k h. fall k (omega arith)) (λ k h. refl))
+chain_cons es e fall = grind (arith, nat_tests, chain_agree)
 
 -- no entry of a chain is at its height or above
 pub chain_low : (n : ℕ) (es : List Entry) (c : Option ℕ) (k e : ℕ) → Falling es (height c) → slice_get (chain_of n es c) k ≡ Some e → e < height c
-chain_low zero es c k e fall is = let z : ◌≡◌ {A = ℕ} 0 1 = cc in absurd (omega arith)
-chain_low (suc n) es None k e fall is = let z : ◌≡◌ {A = ℕ} 0 1 = cc in absurd (omega arith)
+chain_low zero es c k e fall is = cc
+chain_low (suc n) es None k e fall is = cc
 chain_low (suc n) es (Some f) zero e fall is = let same : f ≡ e = cc in omega arith
 chain_low (suc n) es (Some f) (suc k) e fall is =
     let c = (get_or es f blank_entry).next in

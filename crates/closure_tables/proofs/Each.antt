@@ -1,5 +1,6 @@
 -- A test of each element of a list. Assumes nothing.
 use Rattle.std.proofs.Common.{◌≡◌, ℕ, zero, suc, ◌+◌, ◌<◌, Bool, true, List, [], ◌∷◌, ◌++◌, length, get_or, sym, refl, subst, add-zero, arith}
+use Rattle.std.proofs.lemmas.Bool.Decides.{nat_tests}
 use Rattle.std.proofs.lemmas.Bool.{and_parts, and_from}
 use Rattle.closure_tables.specs.Valid.{each}
 
@@ -12,9 +13,7 @@ each_at test n (x ∷ xs) (suc k) d e h =
 
 -- from number 0
 pub each_here : {X : Type 0} (test : ℕ → X → Bool) (xs : List X) (k : ℕ) (d : X) → each test 0 xs ≡ true → k < length xs → test k (get_or xs k d) ≡ true
-each_here test xs k d e h =
-    let same : 0 + k ≡ k = omega arith in
-    subst (λ m. test m (get_or xs k d) ≡ true) same (each_at test 0 xs k d e h)
+each_here test xs k d e h = grind (arith, nat_tests, each_at)
 
 pub each_push : {X : Type 0} (test : ℕ → X → Bool) (n : ℕ) (xs : List X) (x : X) → each test n xs ≡ true → test (n + length xs) x ≡ true → each test n (xs ++ x ∷ []) ≡ true
 each_push test n [] x e h = and_from _ _ (subst (λ m. test m x ≡ true) (add-zero n) h) refl

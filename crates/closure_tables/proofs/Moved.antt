@@ -1,12 +1,13 @@
 -- Each transition on tables is the one of the abstract machine, and keeps them valid. Assumes nothing.
-use Rattle.std.proofs.Common.{◌≡◌, ℕ, suc, ◌+◌, ◌-◌, ◌<◌, true, ltb, List, [], ◌∷◌, ◌++◌, map, reverse, length, get_or, take, Some, None, sym, refl, ap, ◌∙◌, subst, arith, length-append, take-suc}
+use Rattle.std.proofs.Common.{◌≡◌, ℕ, suc, ◌+◌, ◌-◌, ◌<◌, true, List, [], ◌∷◌, ◌++◌, map, reverse, length, get_or, take, Some, None, sym, ap, ◌∙◌, subst, arith, length-append, take-suc}
+use Rattle.std.proofs.lemmas.Bool.Decides.{nat_tests}
 use lib.Seq.{take-length, get_or-append_seam}
 use Rattle.std.proofs.lemmas.List.{nil_from_length}
-use Rattle.std.proofs.lemmas.Bool.{and_parts, and_from, ltb-true, le-ltb, le-leb, cond-false}
+use Rattle.std.proofs.lemmas.Bool.{and_parts, and_from, le-leb}
 use Rattle.std.specs.List.{slice_get}
-use Rattle.machine.specs.declared.outcomes.Transition.TheVariants.{Beta, Substitution, Search}
+use Rattle.machine.specs.declared.transitions.Transition.TheVariants.{Beta, Substitution, Search}
 use Rattle.machine.specs.Meanings.{transition, done}
-use Rattle.abstract_machine.specs.Pieces.{Piece, place, ingredient, function, filled, opened, outer}
+use Rattle.abstract_machine.specs.Pieces.{Piece, function, filled, opened}
 use Rattle.abstract_machine.specs.States.{State, due_at, due_of, next_of, next}
 use Rattle.abstract_machine.specs.Soundness.{SoundState}
 use Rattle.abstract_machine.proofs.Transitions.{state_law}
@@ -15,14 +16,14 @@ use Rattle.closure_tables.specs.declared.rows.Cell.TheVariants as cell
 use Rattle.closure_tables.specs.declared.rows.Argument.{Argument}
 use Rattle.closure_tables.specs.declared.rows.Entry.{Entry}
 use Rattle.closure_tables.specs.Tables.{blank_cell, blank_argument, blank_entry, Tables}
-use Rattle.closure_tables.specs.Presented.{height, chain_of, chain_in, filled_by, cell_piece, piece_at, closure_of, entry_piece, presented}
-use Rattle.closure_tables.specs.Valid.{each, cell_inside, argument_inside, entry_inside}
+use Rattle.closure_tables.specs.Presented.{chain_of, chain_in, filled_by, cell_piece, piece_at, closure_of, entry_piece, presented}
+use Rattle.closure_tables.specs.Valid.{each, argument_inside, entry_inside}
 use Rattle.closure_tables.specs.Moves.{descended, entered, fetched}
 use Rattle.closure_tables.proofs.Each.{each_here, each_push, each_front, each_weaker}
 use Rattle.closure_tables.proofs.Latest.{latest_push, latest_same, length_latest, numbered_latest}
 use Rattle.closure_tables.proofs.Chains.{chain_low}
 use Rattle.closure_tables.proofs.Pieces.{piece_here, piece_opened}
-use Rattle.closure_tables.proofs.Kept.{Kept, argument_is, argument_test, argument_more, onward, entry_is, falling, chain_more, closure_more}
+use Rattle.closure_tables.proofs.Kept.{Kept, argument_is, argument_test, argument_more, onward, sides_inside, body_inside, entry_is, falling, chain_more, closure_more}
 
 -- the cell in hand, and the chain in hand
 abbrev pub Hand : Tables → Cell → Type 0
@@ -42,10 +43,7 @@ abbrev entries_of : Tables → List Piece
 entries_of t = (presented t).entries
 
 pub hand_is : (t : Tables) → Kept t → (x : Cell) → Hand t x → (presented t).hand ≡ cell_piece (part t) (hand_chain t) 0 t.hand.node x
-hand_is t k x is =
-    let h = argument_is _ _ t.hand k.hand in
-    piece_here t.cells (hand_chain t) 0 t.hand.node (onward t k) h.node
-    ∙ ap (cell_piece (part t) (hand_chain t) 0 t.hand.node) is
+hand_is t k x is = grind (arith, nat_tests, argument_is, piece_here, onward)
 
 -- where the piece in hand is p, what is due and comes next is what p says
 due_is : (t : Tables) (p : Piece) → (presented t).hand ≡ p → due_of (presented t) ≡ due_at p (stack_of t)
@@ -71,21 +69,12 @@ search_next t k r is =
     ap (λ s. record { hand = left; stack = s; entries = entries_of t }) pushed
     ∙ sym (next_is t _ (hand_is t k (cell.Application r) is))
 
-parts_inside : (t : Tables) → Kept t → (r : ℕ) → Hand t (cell.Application r) → (suc t.hand.node < length t.cells) × (r < length t.cells)
-parts_inside t k r is =
-    let n = length t.cells in
-    let i = t.hand.node in
-    let p = and_parts (ltb i r) (ltb r n) (subst (λ x. cell_inside n i x ≡ true) is (onward t k i (argument_is _ _ t.hand k.hand).node)) in
-    let a = ltb-true i r p.0 in
-    let b = ltb-true r n p.1 in
-    (omega arith, b)
-
 pub search_kept : (t : Tables) → Kept t → (r : ℕ) → Hand t (cell.Application r) → Kept (descended r t)
 search_kept t k r is =
     let n = length t.cells in
     let b = length t.entries in
     let h = argument_is n b t.hand k.hand in
-    let p = parts_inside t k r is in
+    let p = sides_inside t k t.hand.node r h.node is in
     record {
       few = k.few;
       cells = k.cells;
@@ -176,7 +165,7 @@ beta_kept t k is h =
     let new : Entry = record { argument = top t; next = t.hand.chain } in
     let in_hand = argument_is n b t.hand k.hand in
     let long : length (t.entries ++ new ∷ []) ≡ b + 1 = length-append t.entries (new ∷ []) in
-    let inner : suc i < n = ltb-true _ _ (subst (λ x. cell_inside n i x ≡ true) is (onward t k i in_hand.node)) in
+    let inner : suc i < n = body_inside t k i in_hand.node is in
     record {
       few = k.few;
       cells = k.cells;
@@ -189,23 +178,14 @@ beta_kept t k is h =
 -- substitution
 
 pub place_is : (t : Tables) → Kept t → (j : ℕ) → Hand t (cell.Place j) → (presented t).hand ≡ filled_by (slice_get (hand_chain t) j) j
-place_is t k j is =
-    let none : j - 0 ≡ j = omega arith in
-    hand_is t k (cell.Place j) is
-    ∙ cond-false (ltb j 0) (place j) (filled_by (slice_get (hand_chain t) (j - 0)) j) (le-ltb j 0 (omega arith))
-    ∙ ap (λ m. filled_by (slice_get (hand_chain t) m) j) none
+place_is t k j is = grind (arith, nat_tests, hand_is)
 
 -- a place in hand is filled
 pub place_filled : (t : Tables) → Kept t → (j : ℕ) → Hand t (cell.Place j) → slice_get (hand_chain t) j ≡ None → ⊥
-place_filled t k j is empty =
-    let bare : (presented t).hand ≡ place j = place_is t k j is ∙ ap (λ o. filled_by o j) empty in
-    let free = ap outer bare in
-    omega (arith, k.sound.hand.closed)
+place_filled t k j is empty = grind (arith, nat_tests, place_is)
 
 pub entry_low : (t : Tables) → Kept t → (j e : ℕ) → slice_get (hand_chain t) j ≡ Some e → e < length t.entries
-entry_low t k j e is =
-    let h = argument_is _ _ t.hand k.hand in
-    omega (arith, chain_low _ t.entries t.hand.chain j e (falling t k (height t.hand.chain) h.chain) is)
+entry_low t k j e is = grind (arith, nat_tests, argument_is, chain_low, falling)
 
 filled_is : (t : Tables) → Kept t → (j e : ℕ) → Hand t (cell.Place j) → slice_get (hand_chain t) j ≡ Some e → (presented t).hand ≡ filled e
 filled_is t k j e is found = place_is t k j is ∙ ap (λ o. filled_by o j) found
@@ -215,17 +195,10 @@ substitution_due t k j e is found = due_is t _ (filled_is t k j e is found)
 
 -- so a substitution is due at every place
 pub place_due : (t : Tables) → Kept t → (j : ℕ) → Hand t (cell.Place j) → due_of (presented t) ≡ transition Substitution
-place_due t k j is =
-    elim (slice_get (hand_chain t) j) as (λ o. slice_get (hand_chain t) j ≡ o → due_of (presented t) ≡ transition Substitution) [
-      | None ↦ λ none. absurd (place_filled t k j is none)
-      | Some e ↦ λ found. substitution_due t k j e is found
-    ] refl
+place_due t k j is = grind (arith, nat_tests, place_filled, substitution_due)
 
 pub substitution_next : (t : Tables) → Kept t → (j e : ℕ) → Hand t (cell.Place j) → slice_get (hand_chain t) j ≡ Some e → presented (fetched e t) ≡ next (presented t)
-substitution_next t k j e is found =
-    let g = entry_piece t.cells t.entries in
-    ap (λ p. record { hand = p; stack = stack_of t; entries = entries_of t }) (sym (numbered_latest g (ingredient 0) blank_entry t.entries e (entry_low t k j e found)))
-    ∙ sym (next_is t _ (filled_is t k j e is found))
+substitution_next t k j e is found = grind (arith, nat_tests, numbered_latest, entry_low, next_is, filled_is)
 
 pub substitution_kept : (t : Tables) → Kept t → (j e : ℕ) → Hand t (cell.Place j) → slice_get (hand_chain t) j ≡ Some e → Kept (fetched e t)
 substitution_kept t k j e is found =

@@ -1,12 +1,12 @@
 -- The pieces that cells present. Assumes nothing.
-use Rattle.std.proofs.Common.{◌≡◌, ℕ, zero, suc, ◌+◌, ◌-◌, ◌<◌, ◌≤◌, true, false, eqb, ltb, ◌⊎◌, List, ◌∷◌, length, get_or, Some, None, Option, sym, refl, ap, ◌∙◌, inl, inr, arith, eq-eqb, ne_eqb}
-use Rattle.std.proofs.lemmas.Bool.{cond-true, cond-false, and_parts, ltb-true, lt-ltb, le-ltb, cases_order}
-use Rattle.std.specs.List.{slice_get}
-use Rattle.abstract_machine.specs.Pieces.{place, function, filled, opened}
+use Rattle.std.proofs.Common.{◌≡◌, ℕ, zero, suc, ◌+◌, ◌<◌, ◌≤◌, true, ltb, List, ◌∷◌, length, get_or, refl, ap, arith}
+use Rattle.std.proofs.lemmas.Bool.Decides.{nat_tests}
+use Rattle.std.proofs.lemmas.Bool.{and_parts, ltb-true}
+use Rattle.abstract_machine.specs.Pieces.{function, opened}
 use Rattle.closure_tables.specs.declared.rows.Cell.{Cell}
 use Rattle.closure_tables.specs.declared.rows.Cell.TheVariants as cell
 use Rattle.closure_tables.specs.Tables.{blank_cell}
-use Rattle.closure_tables.specs.Presented.{filled_by, place_at, cell_piece, piece_at}
+use Rattle.closure_tables.specs.Presented.{place_at, cell_piece, piece_at}
 use Rattle.closure_tables.specs.Valid.{cell_inside}
 
 -- every cell's parts lie further on
@@ -43,35 +43,7 @@ piece_here cells chain d i on h = piece_enough (length cells) (suc (length cells
 
 -- a further entry in front of the chain opens the place that it fills
 place_opened : (chain : List ℕ) (j d k : ℕ) → opened d j (place_at chain (suc d) k) ≡ place_at (j ∷ chain) d k
-place_opened chain j d k = by_order (cases_order k d)
-  where
-    filled_opened : (o : Option ℕ) → (k ≡ d → ⊥) → opened d j (filled_by o k) ≡ filled_by o k
-    filled_opened None apart = cond-false (eqb k d) (filled j) (place k) (ne_eqb k d apart)
-    filled_opened (Some e) apart = refl
-
-    by_order : (k ≡ d) ⊎ ((k < d) ⊎ (d < k)) → opened d j (place_at chain (suc d) k) ≡ place_at (j ∷ chain) d k
-    by_order (inl same) =
-        let below : ltb k (suc d) ≡ true = lt-ltb k (suc d) (omega arith) in
-        let not_below : ltb k d ≡ false = le-ltb k d (omega arith) in
-        let none : k - d ≡ 0 = omega arith in
-        ap (opened d j) (cond-true (ltb k (suc d)) (place k) (filled_by (slice_get chain (k - suc d)) k) below)
-        ∙ cond-true (eqb k d) (filled j) (place k) (eq-eqb k d same)
-        ∙ sym (cond-false (ltb k d) (place k) (filled_by (slice_get (j ∷ chain) (k - d)) k) not_below ∙ ap (λ x. filled_by (slice_get (j ∷ chain) x) k) none)
-    by_order (inr (inl lt)) =
-        let below : ltb k (suc d) ≡ true = lt-ltb k (suc d) (omega arith) in
-        let also : ltb k d ≡ true = lt-ltb k d lt in
-        let apart : k ≡ d → ⊥ = omega arith in
-        ap (opened d j) (cond-true (ltb k (suc d)) (place k) (filled_by (slice_get chain (k - suc d)) k) below)
-        ∙ cond-false (eqb k d) (filled j) (place k) (ne_eqb k d apart)
-        ∙ sym (cond-true (ltb k d) (place k) (filled_by (slice_get (j ∷ chain) (k - d)) k) also)
-    by_order (inr (inr gt)) =
-        let above : ltb k (suc d) ≡ false = le-ltb k (suc d) (omega arith) in
-        let also : ltb k d ≡ false = le-ltb k d (omega arith) in
-        let apart : k ≡ d → ⊥ = omega arith in
-        let step : k - d ≡ suc (k - suc d) = omega arith in
-        ap (opened d j) (cond-false (ltb k (suc d)) (place k) (filled_by (slice_get chain (k - suc d)) k) above)
-        ∙ filled_opened (slice_get chain (k - suc d)) apart
-        ∙ sym (cond-false (ltb k d) (place k) (filled_by (slice_get (j ∷ chain) (k - d)) k) also ∙ ap (λ x. filled_by (slice_get (j ∷ chain) x) k) step)
+place_opened chain j d k = grind (arith, nat_tests)
 
 pub piece_opened : (n : ℕ) (cells : List Cell) (chain : List ℕ) (j d i : ℕ) → opened d j (piece_at n cells chain (suc d) i) ≡ piece_at n cells (j ∷ chain) d i
 piece_opened zero cells chain j d i = refl

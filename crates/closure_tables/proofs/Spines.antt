@@ -1,8 +1,9 @@
 -- What stands on the spine. Assumes nothing.
-use Rattle.std.proofs.Common.{◌≡◌, ℕ, zero, suc, ◌-◌, ◌^◌, ◌<◌, ◌≤◌, true, ◌&&◌, ltb, leb, List, [], ◌∷◌, ◌++◌, map, reverse, length, get_or, take, Some, None, sym, refl, ap, ◌∙◌, subst, inl, inr, arith, take-suc}
+use Rattle.std.proofs.Common.{◌≡◌, ℕ, zero, suc, ◌-◌, ◌^◌, ◌<◌, ◌≤◌, true, List, [], ◌∷◌, ◌++◌, map, reverse, length, get_or, take, Some, None, sym, refl, ap, ◌∙◌, subst, inl, inr, arith, take-suc}
+use Rattle.std.proofs.lemmas.Bool.Decides.{nat_tests}
 use lib.ListN.{length-map, length-reverse}
 use Rattle.std.proofs.lemmas.List.{take_all, get_or-map, get_or-reverse}
-use Rattle.std.proofs.lemmas.Bool.{and_from, and_left, cond-true, cond-false, lt-ltb, le-ltb, le-leb, cases_lt}
+use Rattle.std.proofs.lemmas.Bool.{and_left, cases_lt}
 use Rattle.term.specs.Terms as term
 use Rattle.term.specs.Terms.{Term}
 use Rattle.writer.specs.declared.heads.Head.TheVariants as head
@@ -13,7 +14,7 @@ use Rattle.abstract_machine.specs.Soundness.{SoundPiece, SoundStack}
 use Rattle.closure_tables.specs.declared.rows.Argument.{Argument}
 use Rattle.closure_tables.specs.Tables.{blank_argument, Tables}
 use Rattle.closure_tables.specs.Presented.{closure_of, presented}
-use Rattle.closure_tables.specs.Valid.{argument_inside, valid}
+use Rattle.closure_tables.specs.Valid.{valid}
 use Rattle.closure_tables.specs.Positions.{spine_number, spot_number, closure_spot, entry_values, term_inside, term_on_spine, term_at, root}
 use Rattle.closure_tables.proofs.Each.{each_here}
 use Rattle.closure_tables.proofs.Latest.{length_latest}
@@ -32,14 +33,10 @@ waiting t k = get_or t.stack (length t.stack - 1 - k) blank_argument
 -- where there is none
 
 pub spine_empty : (t : Tables) (k : ℕ) → length t.cells ≤ 0 → term_on_spine t k ≡ None
-spine_empty t k h =
-    cond-false (ltb 0 (length t.cells) && leb k (length t.stack)) (Some (spine t k)) None
-    (and_left _ _ (le-ltb 0 (length t.cells) h))
+spine_empty t k h = grind (arith, nat_tests, and_left)
 
 spine_is : (t : Tables) (k : ℕ) → 0 < length t.cells → k ≤ length t.stack → term_on_spine t k ≡ Some (spine t k)
-spine_is t k some h =
-    cond-true (ltb 0 (length t.cells) && leb k (length t.stack)) (Some (spine t k)) None
-    (and_from _ _ (lt-ltb 0 (length t.cells) some) (le-leb k (length t.stack) h))
+spine_is t k some h = grind (arith, nat_tests)
 
 -- the whole of the standing term
 
@@ -76,9 +73,7 @@ module _ (t : Tables) (k : Kept t) where
       ∙ sym (closure_is t k (length (presented t).entries) t.hand (argument_is _ _ t.hand k.hand) k.sound.hand)
 
   pub waiting_inside : (i : ℕ) → i < length t.stack → Inside (length t.cells) (length t.entries) (waiting t i)
-  waiting_inside i h =
-      argument_is _ _ (waiting t i)
-      (each_here (λ j. argument_inside (length t.cells) (length t.entries)) t.stack (length t.stack - 1 - i) blank_argument k.stack (omega arith))
+  waiting_inside i h = grind (arith, nat_tests, argument_is, each_here)
 
   pub spine_more : (i : ℕ) → i < length t.stack → term_on_spine t (suc i) ≡ both term.application (term_on_spine t i) (term_inside t (closure_spot (waiting t i)))
   spine_more i h =

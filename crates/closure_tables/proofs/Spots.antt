@@ -1,7 +1,7 @@
 -- What stands inside a closure, by the cell there. Assumes nothing.
-use Rattle.std.proofs.Common.{◌≡◌, ℕ, suc, ◌+◌, ◌-◌, ◌^◌, ◌<◌, ◌≤◌, true, ltb, List, length, get_or, Some, None, Option, sym, refl, ap, ◌∙◌, subst, arith}
+use Rattle.std.proofs.Common.{◌≡◌, ℕ, suc, ◌+◌, ◌-◌, ◌^◌, ◌<◌, ◌≤◌, ltb, List, length, get_or, Some, None, Option, sym, refl, ap, ◌∙◌, subst, arith}
 use Rattle.std.proofs.lemmas.List.{get_or_default}
-use Rattle.std.proofs.lemmas.Bool.{and_parts, and_from, and_left, cond-true, cond-false, ltb-true, lt-ltb, le-ltb, le-leb}
+use Rattle.std.proofs.lemmas.Bool.{and_from, and_left, cond-true, cond-false, lt-ltb, le-ltb, le-leb}
 use Rattle.std.specs.Option.{option_map}
 use Rattle.std.specs.List.{slice_get}
 use Rattle.term.specs.Terms as term
@@ -19,12 +19,11 @@ use Rattle.closure_tables.specs.declared.rows.Cell.TheVariants as cell
 use Rattle.closure_tables.specs.declared.rows.Argument.{Argument}
 use Rattle.closure_tables.specs.Tables.{blank_cell, blank_entry, Tables}
 use Rattle.closure_tables.specs.Presented.{height, chain_in, filled_by, cell_piece, piece_at, closure_of, entry_piece, presented}
-use Rattle.closure_tables.specs.Valid.{cell_inside}
 use Rattle.closure_tables.specs.Positions.{spot_number, closure_spot, node_spot, body_spot, last_depth, plugged_under, spot_inside, spot_piece, entry_values, term_inside, term_at}
 use Rattle.closure_tables.proofs.Latest.{length_latest, numbered_latest}
 use Rattle.closure_tables.proofs.Chains.{chain_low}
 use Rattle.closure_tables.proofs.Pieces.{piece_here}
-use Rattle.closure_tables.proofs.Kept.{Kept, Inside, onward, entry_is, falling}
+use Rattle.closure_tables.proofs.Kept.{Kept, Inside, onward, sides_inside, body_inside, entry_is, falling}
 use Rattle.closure_tables.proofs.Numbers.{Numbered, term_at_spot}
 
 -- a piece with no free place that is small enough has a term
@@ -94,28 +93,14 @@ module _ (t : Tables) (k : Kept t) where
       let number : Numbered s = record { node = omega (arith, k.few); depth = hd; chain = omega arith } in
       term_at_spot t s number ∙ term_is t s hn hc
 
-  pub application_inside : (s : Spot) (r : ℕ) → At t s (cell.Application r) → (s.node + 1 < length t.cells) × (r < length t.cells)
-  application_inside s r at =
-      let n = length t.cells in
-      let p = and_parts (ltb s.node r) (ltb r n) (subst (λ x. cell_inside n s.node x ≡ true) at.cell (onward t k s.node at.node)) in
-      let a = ltb-true s.node r p.0 in
-      let b = ltb-true r n p.1 in
-      (omega arith, b)
-
-  pub function_inside : (s : Spot) → At t s cell.Function → s.node + 1 < length t.cells
-  function_inside s at =
-      let n = length t.cells in
-      let a = ltb-true (suc s.node) n (subst (λ x. cell_inside n s.node x ≡ true) at.cell (onward t k s.node at.node)) in
-      omega arith
-
   pub application_looks :
       (s : Spot) (r : ℕ) → length t.entries < 2 ^ 31 → s.depth < 65536 → At t s (cell.Application r) →
       term_inside t s ≡ headed (term_at t) (head.Application (spot_number (node_spot s (s.node + 1))) (spot_number (node_spot s r)))
   application_looks s r few deep at =
-      let inner = application_inside s r at in
+      let inner = sides_inside t k s.node r at.node at.cell in
       let same : s.node + 1 ≡ suc s.node = omega arith in
       let left : term_at t (spot_number (node_spot s (s.node + 1))) ≡ plugged_under s.depth (entry_values t) (further t s s.depth (suc s.node))
-      = number_is (node_spot s (s.node + 1)) few inner.0 deep at.chain ∙ ap (λ i. plugged_under s.depth (entry_values t) (further t s s.depth i)) same in
+      = number_is (node_spot s (s.node + 1)) few (omega (arith, inner.0)) deep at.chain ∙ ap (λ i. plugged_under s.depth (entry_values t) (further t s s.depth i)) same in
       let right = number_is (node_spot s r) few inner.1 deep at.chain in
       spot_is s (cell.Application r) at
       ∙ ap (λ x. both term.application x (plugged_under s.depth (entry_values t) (further t s s.depth r))) (sym left)
@@ -129,7 +114,7 @@ module _ (t : Tables) (k : Kept t) where
       let same : s.node + 1 ≡ suc s.node = omega arith in
       let under : d + 1 ≡ suc d = omega arith in
       let inner : term_at t (spot_number (body_spot s)) ≡ plugged_under (suc d) (entry_values t) (further t s (suc d) (suc s.node))
-      = number_is (body_spot s) few (function_inside s at) (omega arith) at.chain
+      = number_is (body_spot s) few (omega (arith, body_inside t k s.node at.node at.cell)) (omega arith) at.chain
       ∙ ap (λ i. plugged_under (d + 1) (entry_values t) (further t s (d + 1) i)) same
       ∙ ap (λ e. plugged_under e (entry_values t) (further t s e (suc s.node))) under in
       spot_is s cell.Function at

@@ -1,5 +1,5 @@
 -- Tables of a term's cells present the term, and are valid. Assumes nothing.
-use Rattle.std.proofs.Common.{◌≡◌, ℕ, zero, suc, ◌+◌, ◌-◌, ◌<◌, ◌≤◌, true, ltb, List, [], ◌∷◌, ◌++◌, length, get_or, fold, sym, refl, ap, ◌∙◌, subst, append_assoc, append-nil, arith, length-append}
+use Rattle.std.proofs.Common.{◌≡◌, ℕ, zero, suc, ◌+◌, ◌-◌, ◌≤◌, true, ltb, List, [], ◌∷◌, ◌++◌, length, get_or, fold, sym, refl, ap, ◌∙◌, subst, append_assoc, append-nil, arith, length-append}
 use Rattle.std.proofs.lemmas.List.{get_or_at, length_push}
 use Rattle.std.proofs.lemmas.Bool.{and_from, cond-true, lt-ltb}
 use Rattle.std.specs.List.{slice_get}
@@ -7,6 +7,7 @@ use Rattle.term.specs.Terms.{Term, place, ingredient, function, application, siz
 use Rattle.code.specs.Scans.{handed_over}
 use Rattle.code.specs.Verdicts.{accepted, verdict}
 use Rattle.code.specs.Law.{ReadingLaw}
+use Rattle.code.proofs.Lists.{size_some}
 use Rattle.abstract_machine.specs.Pieces as piece
 use Rattle.abstract_machine.specs.Pieces.{unfilled}
 use Rattle.abstract_machine.specs.States.{initial}
@@ -21,12 +22,6 @@ use Rattle.closure_tables.specs.Received.{nothing_received, received, cells_of, 
 use Rattle.closure_tables.proofs.Each.{each_append}
 use Rattle.closure_tables.proofs.Kept.{Kept, kept_valid, argument_test}
 use Rattle.closure_tables.proofs.Storing.{length_cells, stores_code}
-
-size_some : (t : Term) → 0 < size t
-size_some (place k) = omega arith
-size_some (ingredient i) = omega arith
-size_some (function t) = omega arith
-size_some (application t u) = omega arith
 
 -- where a list of cells has t's from node n on, the piece there is t with no place filled
 pub presents_term :

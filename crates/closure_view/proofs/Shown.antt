@@ -28,14 +28,15 @@ use Rattle.closure_view.proofs.Chains.{linked_is}
 -- a spot of a node and a chain that there are
 pub record Held (v : View) (s : Spot) : Type 0 where
   pub node : s.node < length v.cells.now
+  pub depth : s.depth < 65536
   pub chain : height s.chain ≤ length v.entries.now
 
 held_kept : (v : View) (s : Spot) → Held v s → Kept (tables_of v)
 held_kept v s h = kept (tables_of v) (omega (arith, h.node)) v.kept
 
 -- the cell at a spot, as it is read
-held_at : (v : View) (s : Spot) (d : Cell) → Held v s → At (tables_of v) s (get_or v.cells.now s.node d)
-held_at v s d h = at_read (tables_of v) s (get_or v.cells.now s.node d) d h.node h.chain refl
+held_at : (v : View) (s : Spot) (d : Cell) (n : ℕ) → n ≡ s.node → Held v s → At (tables_of v) s (get_or v.cells.now n d)
+held_at v s d n is h = at_read (tables_of v) s (get_or v.cells.now n d) d h.node h.chain (ap (λ m. get_or v.cells.now m d) (sym is))
 
 -- cells that nothing fills
 
@@ -53,15 +54,15 @@ module _ (t : Tables) (k : Kept t) (few : length t.entries < 2 ^ 31) (s : Spot) 
   cell_looks (cell.Place j) at none =
       elim (ltb j s.depth) as (λ b. ltb j s.depth ≡ b → cond b None (Some (j - s.depth)) ≡ None → term_inside t s ≡ headed (term_at t) (head.Place j)) [
         | true ↦ λ e q. spots.place_looks t k s j at (ltb-true _ _ e)
-        | false ↦ λ e q. let z : ◌≡◌ {A = ℕ} 0 1 = cc in absurd (omega arith)
+        | false ↦ λ e q. cc
       ] refl none
   cell_looks (cell.Ingredient i) at none = spots.ingredient_looks t k s i at
 
 pub leads_here :
-    (v : View) (from s : Spot) (d : Cell) → term_inside (tables_of v) from ≡ term_inside (tables_of v) s → Held v s → s.depth < 65536 →
-    link_index s.depth (get_or v.cells.now s.node d) ≡ None → Shows v from (cell_head s (get_or v.cells.now s.node d))
-leads_here v from s d same h deep none =
-    same ∙ cell_looks (tables_of v) (held_kept v s h) v.few s deep (get_or v.cells.now s.node d) (held_at v s d h) none
+    (v : View) (from s : Spot) (d : Cell) (n : ℕ) → n ≡ s.node → term_inside (tables_of v) from ≡ term_inside (tables_of v) s → Held v s →
+    link_index s.depth (get_or v.cells.now n d) ≡ None → Shows v from (cell_head s (get_or v.cells.now n d))
+leads_here v from s d n is same h none =
+    same ∙ cell_looks (tables_of v) (held_kept v s h) v.few s h.depth (get_or v.cells.now n d) (held_at v s d n is h) none
 
 -- a place to be filled
 
@@ -72,14 +73,14 @@ record Unfilled (d : ℕ) (x : Cell) (i : ℕ) : Type 0 where
   link : i ≡ index - d
 
 unfilled : (d : ℕ) (x : Cell) (i : ℕ) → link_index d x ≡ Some i → Unfilled d x i
-unfilled d (cell.Application r) i e = let z : ◌≡◌ {A = ℕ} 0 1 = cc in absurd (omega arith)
-unfilled d cell.Function i e = let z : ◌≡◌ {A = ℕ} 0 1 = cc in absurd (omega arith)
+unfilled d (cell.Application r) i e = cc
+unfilled d cell.Function i e = cc
 unfilled d (cell.Place j) i e =
     elim (ltb j d) as (λ b. ltb j d ≡ b → cond b None (Some (j - d)) ≡ Some i → Unfilled d (cell.Place j) i) [
-      | true ↦ λ t q. let z : ◌≡◌ {A = ℕ} 0 1 = cc in absurd (omega arith)
+      | true ↦ λ t q. cc
       | false ↦ λ t q. let same : j - d ≡ i = cc in record { index = j; cell = refl; free = ltb-false _ _ t; link = sym same }
     ] refl e
-unfilled d (cell.Ingredient n) i e = let z : ◌≡◌ {A = ℕ} 0 1 = cc in absurd (omega arith)
+unfilled d (cell.Ingredient n) i e = cc
 
 -- spot r has a lower chain than spot s, and the same term stands there
 pub record Filler (v : View) (s r : Spot) : Type 0 where
@@ -98,28 +99,28 @@ module _ (v : View) (s : Spot) (h : Held v s) where
   entry_held i e found = (spots.filled_lower (tables_of v) (held_kept v s h) s i e h.chain (found_at i (Some e) found)).entry
 
   pub free_shows :
-      (d : Cell) (i : ℕ) → link_index s.depth (get_or v.cells.now s.node d) ≡ Some i → linked v.entries.now s.chain i ≡ None → term_inside (tables_of v) s ≡ None
-  free_shows d i index none =
-      let u = unfilled s.depth (get_or v.cells.now s.node d) i index in
-      let at = subst (At (tables_of v) s) u.cell (held_at v s d h) in
+      (d : Cell) (n i : ℕ) → n ≡ s.node → link_index s.depth (get_or v.cells.now n d) ≡ Some i → linked v.entries.now s.chain i ≡ None → term_inside (tables_of v) s ≡ None
+  free_shows d n i is index none =
+      let u = unfilled s.depth (get_or v.cells.now n d) i index in
+      let at = subst (At (tables_of v) s) u.cell (held_at v s d n is h) in
       spots.free_looks (tables_of v) (held_kept v s h) s u.index at u.free (ap entry_at (sym u.link) ∙ found_at i None none)
 
   -- what fills a place
   pub fills :
-      (d : Cell) (i e : ℕ) (f : Entry) (r : Spot) → link_index s.depth (get_or v.cells.now s.node d) ≡ Some i → linked v.entries.now s.chain i ≡ Some e →
+      (d : Cell) (n i e : ℕ) (f : Entry) (r : Spot) → n ≡ s.node → link_index s.depth (get_or v.cells.now n d) ≡ Some i → linked v.entries.now s.chain i ≡ Some e →
       r ≡ closure_spot (get_or v.entries.now e f).argument → Filler v s r
-  fills d i e f r index found next =
+  fills d n i e f r is-node index found next =
       let t = tables_of v in
       let k = held_kept v s h in
-      let u = unfilled s.depth (get_or v.cells.now s.node d) i index in
-      let at = subst (At t s) u.cell (held_at v s d h) in
+      let u = unfilled s.depth (get_or v.cells.now n d) i index in
+      let at = subst (At t s) u.cell (held_at v s d n is-node h) in
       let here = found_at i (Some e) found in
       let lower = spots.filled_lower t k s i e h.chain here in
       let is : r ≡ closure_spot (get_or t.entries e blank_entry).argument = next ∙ ap (λ y. closure_spot y.argument) (get_or_default t.entries e f blank_entry lower.entry) in
       let node = ap (λ y. y.node) is in
       let chain = ap (λ y. height y.chain) is in
       record {
-        held = record { node = omega (arith, lower.node, node); chain = omega (arith, lower.chain, chain, h.chain) };
+        held = record { node = omega (arith, lower.node, node); depth = omega (arith, ap (λ y. y.depth) is); chain = omega (arith, lower.chain, chain, h.chain) };
         lower = omega (arith, lower.chain, chain);
         same = spots.filled_looks t k s u.index e at u.free (ap entry_at (sym u.link) ∙ here) ∙ ap (term_inside t) (sym is);
       }
@@ -130,17 +131,17 @@ pub hand_shows : (v : View) (k : ℕ) (s : Spot) (x : Option Head) → k ≡ 0 �
 hand_shows v k s x none here shows =
     ap (term_on_spine (tables_of v)) none ∙ spines.spine_hand (tables_of v) v.kept ∙ ap (term_inside (tables_of v)) (sym here) ∙ shows
 
--- the last of the k nearest arguments, as code reads it
-module _ (v : View) (k i : ℕ) (a : Argument) (at : (k ≤ length v.stack.now) × (i ≡ length v.stack.now - k)) (low : i < length v.stack.now) (read : a ≡ get_or v.stack.now i blank_argument) where
+module _ (v : View) (k : ℕ) (a : Argument) (some : 0 < k) (few : k ≤ length v.stack.now) (read : a ≡ get_or v.stack.now (length v.stack.now - k) a) where
+  -- the last of the k nearest arguments
   last_is : a ≡ get_or v.stack.now (length v.stack.now - k) blank_argument
-  last_is = read ∙ ap (λ j. get_or v.stack.now j blank_argument) at.1
+  last_is = read ∙ get_or_default v.stack.now (length v.stack.now - k) a blank_argument (omega arith)
 
   pub last_chain : 0 < length v.cells.now → height a.chain < 2 ^ 31
   last_chain stands =
-      let inside = spines.taken_inside (tables_of v) (kept (tables_of v) stands v.kept) k (omega (arith, at.1)) at.0 in
+      let inside = spines.taken_inside (tables_of v) (kept (tables_of v) stands v.kept) k some few in
       omega (arith, inside.chain, ap (λ y. height y.chain) last_is, v.few)
 
   pub last_shows : ShowsOnSpine v k (Some (head.Application (spine_number (k - 1)) (spot_number (closure_spot a))))
   last_shows =
-      spines.spine_looks (tables_of v) k v.kept v.few (omega (arith, at.1)) at.0
+      spines.spine_looks (tables_of v) k v.kept v.few some few
       ∙ ap (λ y. headed (standing_at v) (head.Application (spine_number (k - 1)) (spot_number (closure_spot y)))) (sym last_is)

@@ -12,7 +12,7 @@ pub(crate) fn link_index(depth: u16, cell: Cell) -> Option<u8>
     ensures { result ≡ link_index depth cell }
 {
     match cell {
-        Cell::Place(index) if index as u16 >= depth => Some(index - depth as u8),
+        Cell::Place(index) if u16::from(index) >= depth => Some(index - depth as u8),
         _ => None,
     }
 }
@@ -20,8 +20,8 @@ pub(crate) fn link_index(depth: u16, cell: Cell) -> Option<u8>
 // A spot whose cell nothing fills, with that cell.
 #[derive(Clone, Copy)]
 pub(crate) struct Found {
-    pub(crate) spot: Spot,
-    pub(crate) cell: Cell,
+    pub spot: Spot,
+    pub cell: Cell,
     ghost node: { spot.node < 65535 },
     ghost chain: { height spot.chain < 2 ^ 31 },
 }

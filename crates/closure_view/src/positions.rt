@@ -16,7 +16,7 @@ const FIRST_SPINE: u64 = 1 << 63;
 pub(crate) fn height(chain: Option<u32>) -> u64
     ensures { result ≡ height chain }
 {
-    chain.map_or(0, |entry| entry as u64 + 1)
+    chain.map_or(0, |entry| u64::from(entry) + 1)
 }
 
 // The chain of a height.
@@ -43,7 +43,7 @@ pub(crate) fn spot_number(spot: Spot) -> u64
     requires { height spot.chain < 2 ^ 31 }
     ensures { result ≡ spot_number spot }
 {
-    spot.node as u64 + NODES * (spot.depth as u64 + DEPTHS * height(spot.chain))
+    u64::from(spot.node) + NODES * (u64::from(spot.depth) + DEPTHS * height(spot.chain))
 }
 
 pub(crate) fn spine_number(taken: usize) -> u64

@@ -1,5 +1,6 @@
 -- The promises of the reading. Assumes nothing.
 use Rattle.std.proofs.Common.{◌≡◌, ℕ, suc, ◌+◌, List, [], ◌∷◌, ◌++◌, length, Ok, Err, Result, sym, refl, ap, ◌∙◌, subst, append_assoc, append-nil, arith}
+use Rattle.std.proofs.lemmas.Bool.Decides.{nat_tests}
 use Rattle.node.specs.declared.nodes.Node.TheVariants.{Application, Function}
 use Rattle.node.specs.declared.nodes.Located.{Located}
 use Rattle.node.specs.declared.faults.Fault.{Fault}
@@ -49,13 +50,7 @@ record Alone (bs : List ℕ) (k : ℕ) (t : Term) : Type 0 where
 
 alone : (bs : List ℕ) (k : ℕ) (ts : List Term) → Sound most_nodes 0 (root ∷ []) bs k ts → Alone bs k (first ts)
 alone bs k [] h = absurd h.fits
-alone bs k (t ∷ []) h =
-    let fit = h.fits.0 in
-    record {
-      spelled = h.spelled ∙ append-nil (code t);
-      recipe = record { closed = fit.covered; small = omega (arith, h.small); shallow = fit.shallow; stocked = fit.stocked };
-      counted = omega (arith, h.counted);
-    }
+alone bs k (t ∷ []) h = grind (arith, nat_tests, append-nil)
 alone bs k (t ∷ u ∷ ts) h = absurd h.fits.1
 
 accepted_alone : (bs : List ℕ) (k : ℕ) → Bytes bs → (reading bs).ended ≡ Ok k → Alone bs k (first (terms (reading bs).handed))
@@ -79,21 +74,15 @@ answered bs b = go (reading bs).ended refl
     go (Ok k) e = e ∙ ap Ok (accepted_alone bs k b e).counted ∙ sym (ap told (verdict_ok bs k e))
     go (Err f) e = e ∙ sym (ap told (verdict_err bs f e))
 
-pub refused_not : {f : Fault} {t : Term} → refused f ≡ accepted t → ⊥
-refused_not h = let z : ◌≡◌ {A = ℕ} 0 1 = cc in omega arith
-
-same_term : {t u : Term} → accepted t ≡ accepted u → t ≡ u
-same_term h = cc
-
 pub accepts_exactly : (bs : List ℕ) → Bytes bs → AcceptsExactly bs
 accepts_exactly bs b t = (λ h. go h (reading bs).ended refl, λ p. ap verdict p.0 ∙ reads_back t p.1)
   where
     go : verdict bs ≡ accepted t → (r : Result ℕ Fault) → (reading bs).ended ≡ r → (bs ≡ code t) × Recipe t
     go h (Ok k) e =
         let it = accepted_alone bs k b e in
-        let same = same_term (sym (verdict_ok bs k e) ∙ h) in
+        let same : first (terms (reading bs).handed) ≡ t = cc (verdict_ok bs k e) in
         (it.spelled ∙ ap code same, subst Recipe same it.recipe)
-    go h (Err f) e = absurd (refused_not (sym (verdict_err bs f e) ∙ h))
+    go h (Err f) e = cc (verdict_err bs f e)
 
 pub laid_out : (bs : List ℕ) → Bytes bs → LaidOut bs
 laid_out bs b t h =

@@ -1,9 +1,15 @@
 -- Lists of slots and of the terms that fill them. Assumes nothing.
-use Rattle.std.proofs.Common.{ℕ, ◌+◌, ◌-◌, ◌≤◌, List, [], ◌∷◌, ◌++◌, length}
+use Rattle.std.proofs.Common.{ℕ, ◌+◌, ◌-◌, ◌<◌, ◌≤◌, List, [], ◌∷◌, ◌++◌, length, arith}
 use Rattle.node.specs.declared.nodes.Located.{Located}
-use Rattle.term.specs.Terms.{Term, size, nesting, Covered, Stocked, most_nested}
+use Rattle.term.specs.Terms.{Term, place, ingredient, function, application, size, nesting, Covered, Stocked, most_nested}
 use Rattle.code.specs.Scans.{Slot}
 use Rattle.code.specs.Layouts.{layout}
+
+pub size_some : (t : Term) → 0 < size t
+size_some (place k) = omega arith
+size_some (ingredient i) = omega arith
+size_some (function t) = omega arith
+size_some (application t u) = omega arith
 
 -- t may stand under d functions
 pub record Fit (d : ℕ) (t : Term) : Type 0 where

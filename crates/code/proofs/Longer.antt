@@ -1,5 +1,6 @@
 -- The reading of a code that goes on. Assumes nothing.
 use Rattle.std.proofs.Common.{◌≡◌, ℕ, zero, suc, ◌+◌, ◌-◌, Bool, true, false, cond, eqb, ltb, leb, List, [], ◌∷◌, ◌++◌, length, drop, Ok, Err, Result, sym, refl, ap, ◌∙◌, subst, arith, length-append}
+use Rattle.std.proofs.lemmas.Bool.Decides.{nat_tests}
 use Rattle.std.proofs.lemmas.List.{drop-append-le}
 use Rattle.std.proofs.lemmas.Bool.{cond_both}
 use Rattle.node.specs.declared.nodes.Node.{Node}
@@ -12,7 +13,7 @@ use Rattle.node.specs.Faults.{number_of}
 use Rattle.node.specs.Spell.{spelling_of, spell_place, spell_ingredient, width_of}
 use Rattle.node.specs.Checks.{fitted, judged}
 use Rattle.term.specs.Terms.{most_nodes, most_nested, last_ingredient}
-use Rattle.code.specs.Scans.{Slot, Scan, located, parts_of, finished, next, scan}
+use Rattle.code.specs.Scans.{Slot, Scan, parts_of, finished, next, scan}
 use Rattle.code.proofs.Turns.{judged_ok, onward, goes_on, stops, Spells, spells, spelled_width}
 
 -- an end that further bytes do not mend
@@ -65,7 +66,7 @@ known_more (t ∷ bs) more k =
 
 unknown_more : (bs more : List ℕ) → spelling_of bs ≡ Err Unknown → spelling_of (bs ++ more) ≡ Err Unknown
 unfolding by_tag
-unknown_more [] more e = let z : ◌≡◌ {A = ℕ} 0 1 = cc in absurd (omega arith)
+unknown_more [] more e = cc
 unknown_more (t ∷ bs) more e =
     still_unknown (eqb t 1) (eqb t 2) (eqb t 3) (eqb t 4) (spell_place bs) (spell_ingredient bs) (spell_place (bs ++ more)) (spell_ingredient (bs ++ more)) (known_place bs) (known_ingredient bs) e
 
@@ -100,20 +101,14 @@ not_missing e f = absurd (subst Firm (sym e) f refl)
 judged_more : (end at n d k : ℕ) (p q : Result Node Misspelling) (r : Result Node Fault) → Grown p q → judged end at n d p ≡ r → Firm r → judged (end + k) at n d q ≡ r
 judged_more end at n d k (Err Nothing) q r g e f = not_missing e f
 judged_more end at n d k (Err Unknown) q r g e f = ap (judged (end + k) at n d) g ∙ e
-judged_more end at n d k (Err Cut) q r g e f =
-    elim (ltb n most_nodes) as (λ b. ltb n most_nodes ≡ b → cond b (Err (Missing end)) (Err (TooManyNodes at)) ≡ r → judged (end + k) at n d q ≡ r) [
-      | true ↦ λ b h. not_missing h f
-      | false ↦ λ b h. crowded (end + k) at n d q g b ∙ h
-    ] refl e
+judged_more end at n d k (Err Cut) q r g e f = grind (arith, nat_tests, not_missing, crowded)
 judged_more end at n d k (Ok node) q r g e f = ap (judged (end + k) at n d) g ∙ e
 
 same_place : (end : ℕ) (bs more : List ℕ) → end + length more - length (bs ++ more) ≡ end - length bs
 same_place end bs more = omega (arith, length-append bs more)
 
 next_more : (end n : ℕ) (s : Slot) (bs more : List ℕ) (r : Result Node Fault) → next end n s bs ≡ r → Firm r → next (end + length more) n s (bs ++ more) ≡ r
-next_more end n s bs more r e f =
-    ap (λ at. judged (end + length more) at n (length s.around) (spelling_of (bs ++ more))) (same_place end bs more)
-    ∙ judged_more end (end - length bs) n (length s.around) (length more) (spelling_of bs) (spelling_of (bs ++ more)) r (grown bs more _ refl) e f
+next_more end n s bs more r e f = grind (arith, nat_tests, same_place, judged_more, grown)
 
 -- the end of a longer reading, from that of the shorter
 abbrev pub carry : ℕ → List ℕ → Result ℕ Fault → Result ℕ Fault
@@ -127,26 +122,14 @@ no_room : (end n : ℕ) (s : Slot) (ss : List Slot) (bs : List ℕ) (node : Node
 no_room end n s ss bs node e = rw (e, scan) refl
 
 stops_more : (end m n : ℕ) (s : Slot) (ss : List Slot) (bs more : List ℕ) (f : Fault) → next end n s bs ≡ Err f → Firm (scan end m n (s ∷ ss) bs).ended → scan (end + length more) m n (s ∷ ss) (bs ++ more) ≡ carried (end + length more) more (scan end m n (s ∷ ss) bs)
-stops_more end m n s ss bs more f e firm =
-    let here = stops end m n s ss bs f e in
-    let firm_here = subst (λ z. Firm z.ended) here firm in
-    stops (end + length more) m n s ss (bs ++ more) f (next_more end n s bs more (Err f) e firm_here) ∙ sym (ap (carried (end + length more) more) here)
+stops_more end m n s ss bs more f e firm = grind (arith, nat_tests, stops, next_more)
 
 zero_more : (end n : ℕ) (s : Slot) (ss : List Slot) (bs more : List ℕ) → Firm (scan end zero n (s ∷ ss) bs).ended → (r : Result Node Fault) → next end n s bs ≡ r → scan (end + length more) zero n (s ∷ ss) (bs ++ more) ≡ carried (end + length more) more (scan end zero n (s ∷ ss) bs)
-zero_more end n s ss bs more firm (Ok node) e =
-    no_room (end + length more) n s ss (bs ++ more) node (next_more end n s bs more (Ok node) e tt)
-    ∙ ap (λ at. record { handed = []; ended = Err (TooManyNodes at) }) (same_place end bs more)
-    ∙ sym (ap (carried (end + length more) more) (no_room end n s ss bs node e))
+zero_more end n s ss bs more firm (Ok node) e = grind (arith, nat_tests, no_room, next_more, same_place)
 zero_more end n s ss bs more firm (Err f) e = stops_more end zero n s ss bs more f e firm
 
 turn_more : (end m n : ℕ) (s : Slot) (ss : List Slot) (bs more : List ℕ) → Firm (scan end (suc m) n (s ∷ ss) bs).ended → ((node : Node) → Firm (onward end m n s ss bs node).ended → scan (end + length more) m (suc n) (parts_of n s node ss) (drop (width_of node) bs ++ more) ≡ carried (end + length more) more (onward end m n s ss bs node)) → (r : Result Node Fault) → next end n s bs ≡ r → scan (end + length more) (suc m) n (s ∷ ss) (bs ++ more) ≡ carried (end + length more) more (scan end (suc m) n (s ∷ ss) bs)
-turn_more end m n s ss bs more firm rest (Ok node) e =
-    let here = goes_on end m n s ss bs node e in
-    let wide = spelled_width bs node (spells bs node (judged_ok _ _ _ _ _ node e).spelled) in
-    let on : onward (end + length more) m n s ss (bs ++ more) node ≡ carried (end + length more) more (onward end m n s ss bs node) = ap (scan (end + length more) m (suc n) (parts_of n s node ss)) (drop-append-le (width_of node) bs more wide) ∙ rest node (subst (λ z. Firm z.ended) here firm) in
-    goes_on (end + length more) m n s ss (bs ++ more) node (next_more end n s bs more (Ok node) e tt)
-    ∙ ap (λ (z : Scan). record { handed = located n s node ∷ z.handed; ended = z.ended }) on
-    ∙ sym (ap (carried (end + length more) more) here)
+turn_more end m n s ss bs more firm rest (Ok node) e = grind (arith, nat_tests, goes_on, spelled_width, spells, judged_ok, drop-append-le, next_more)
 turn_more end m n s ss bs more firm rest (Err f) e = stops_more end (suc m) n s ss bs more f e firm
 
 pub extends : (end m n : ℕ) (ss : List Slot) (bs more : List ℕ) → Firm (scan end m n ss bs).ended → scan (end + length more) m n ss (bs ++ more) ≡ carried (end + length more) more (scan end m n ss bs)
@@ -175,9 +158,7 @@ missing_judged end at n d (Ok node) =
     cond_both (ltb n most_nodes) _ _ (MissingAtEnd end) (λ b. missing_fitted end at d node) (λ b h. absurd (omega arith))
 
 missing_stops : (end m n : ℕ) (s : Slot) (ss : List Slot) (bs : List ℕ) (f : Fault) → next end n s bs ≡ Err f → MissingAtEnd end (scan end m n (s ∷ ss) bs).ended
-missing_stops end m n s ss bs f e =
-    let here : MissingAtEnd end (next end n s bs) = missing_judged end (end - length bs) n (length s.around) (spelling_of bs) in
-    subst (λ z. MissingAtEnd end z.ended) (sym (stops end m n s ss bs f e)) (subst (MissingAtEnd end) e here)
+missing_stops end m n s ss bs f e = grind (arith, nat_tests, missing_judged, stops)
 
 missing_turn : (end m n : ℕ) (s : Slot) (ss : List Slot) (bs : List ℕ) → ((node : Node) → MissingAtEnd end (onward end m n s ss bs node).ended) → (r : Result Node Fault) → next end n s bs ≡ r → MissingAtEnd end (scan end (suc m) n (s ∷ ss) bs).ended
 missing_turn end m n s ss bs rest (Ok node) e = subst (λ z. MissingAtEnd end z.ended) (sym (goes_on end m n s ss bs node e)) (rest node)

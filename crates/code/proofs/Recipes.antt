@@ -1,16 +1,17 @@
 -- The code of terms that fit is accepted, and handed over as they are laid out. Assumes nothing.
-use Rattle.std.proofs.Common.{◌≡◌, ℕ, zero, suc, ◌+◌, ◌-◌, ◌*◌, ◌/◌, ◌%◌, ◌<◌, ◌≤◌, List, [], ◌∷◌, ◌++◌, length, Ok, sym, refl, ap, ◌∙◌, append_assoc, arith, lt-ltb, le-leb}
+use Rattle.std.proofs.Common.{◌≡◌, ℕ, zero, suc, ◌+◌, ◌*◌, ◌/◌, ◌%◌, ◌<◌, ◌≤◌, List, [], ◌∷◌, ◌++◌, length, Ok, sym, refl, ap, ◌∙◌, append_assoc, arith, lt-ltb, le-leb}
+use Rattle.std.proofs.lemmas.Bool.Decides.{nat_tests}
 use Rattle.std.specs.List.{flat_map}
 use Rattle.node.specs.declared.nodes.Node.{Node}
 use Rattle.node.specs.declared.nodes.Node.TheVariants.{Application, Function, Place, Ingredient}
 use Rattle.node.specs.declared.nodes.Located.{Located}
 use Rattle.term.specs.Terms.{Term, place, ingredient, function, application, size, code, most_nodes}
 use Rattle.node.specs.Spell.{spelling_of}
-use Rattle.node.specs.Checks.{Fitting, admitted, judged}
+use Rattle.node.specs.Checks.{Fitting, admitted}
 use Rattle.code.specs.Scans.{Slot, Scan, left_of, right_of, located, parts_of, scan}
 use Rattle.code.specs.Layouts.{layout}
 use Rattle.code.proofs.Turns.{onward, goes_on}
-use Rattle.code.proofs.Lists.{Fit, Fits, sizes, layouts}
+use Rattle.code.proofs.Lists.{size_some, Fit, Fits, sizes, layouts}
 
 admits : (at n d : ℕ) (node : Node) → n < most_nodes → Fitting d node → admitted at n d node ≡ Ok node
 admits at n d Application r f = rw (lt-ltb n most_nodes r) refl
@@ -22,27 +23,18 @@ admits at n d (Ingredient i) r f = rw (lt-ltb n most_nodes r, le-leb _ _ f) refl
 abbrev whole : ℕ → List Slot → List Term → Scan
 whole n ss ts = record { handed = layouts n ss ts; ended = Ok (n + sizes ts) }
 
-some_size : (t : Term) → 1 ≤ size t
-some_size (place k) = omega arith
-some_size (ingredient i) = omega arith
-some_size (function t) = omega arith
-some_size (application t u) = omega arith
-
 same : {ls ls' : List Located} {k k' : ℕ} → ls ≡ ls' → k ≡ k' → ◌≡◌ {A = Scan} (record { handed = ls; ended = Ok k }) (record { handed = ls'; ended = Ok k' })
 same p q = λ i. record { handed = p i; ended = Ok (q i) }
 
 -- a node, and then the rest
 then : (end m n : ℕ) (s : Slot) (ss : List Slot) (bs : List ℕ) (node : Node) {ls : List Located} {k : ℕ} → spelling_of bs ≡ Ok node → n < most_nodes → Fitting (length s.around) node → onward end m n s ss bs node ≡ record { handed = ls; ended = Ok k } → scan end (suc m) n (s ∷ ss) bs ≡ record { handed = located n s node ∷ ls; ended = Ok k }
-then end m n s ss bs node e r f h =
-    let d = length s.around in
-    let admitted_here = ap (judged end (end - length bs) n d) e ∙ admits (end - length bs) n d node r f in
-    goes_on end m n s ss bs node admitted_here ∙ ap (λ (z : Scan). record { handed = located n s node ∷ z.handed; ended = z.ended }) h
+then end m n s ss bs node e r f h = grind (arith, nat_tests, admits, goes_on)
 
 pub complete : (end m n : ℕ) (ss : List Slot) (ts : List Term) → m + n ≡ most_nodes → Fits ss ts → sizes ts ≤ m → scan end m n ss (flat_map code ts) ≡ whole n ss ts
 complete end m n [] [] r f h = same refl (omega arith)
 complete end m n [] (t ∷ ts) r f h = absurd f
 complete end m n (s ∷ ss) [] r f h = absurd f
-complete end zero n (s ∷ ss) (t ∷ ts) r f h = absurd (omega (arith, some_size t))
+complete end zero n (s ∷ ss) (t ∷ ts) r f h = absurd (omega (arith, size_some t))
 complete end (suc m) n (s ∷ ss) (place k ∷ ts) r f h =
     then end m n s ss (flat_map code (place k ∷ ts)) (Place k) refl (omega arith) f.0.covered (complete end m (suc n) ss ts (omega arith) f.1 (omega arith))
     ∙ same (ap (λ x. located n s (Place k) ∷ layouts x ss ts) (let e : suc n ≡ n + 1 = omega arith in e)) (omega arith)

@@ -1,5 +1,6 @@
 -- One turn of a reading: what an admitted node tells, and where the reading goes on. Assumes nothing.
-use Rattle.std.proofs.Common.{◌≡◌, ℕ, zero, suc, ◌+◌, ◌*◌, ◌<◌, ◌≤◌, Bool, true, false, cond, eqb, ltb, ◌⊎◌, List, [], ◌∷◌, length, drop, Ok, Err, Result, sym, refl, ap, subst, inl, inr, ⊎_elim, arith, ltb-true, eqb-true, leb-true}
+use Rattle.std.proofs.Common.{◌≡◌, ℕ, zero, suc, ◌+◌, ◌*◌, ◌<◌, ◌≤◌, Bool, true, false, cond, ltb, List, [], ◌∷◌, length, drop, Ok, Err, Result, refl, ap, subst, arith, ltb-true, leb-true}
+use Rattle.std.proofs.lemmas.Bool.Decides.{nat_tests}
 use Rattle.node.specs.declared.nodes.Node.{Node}
 use Rattle.node.specs.declared.nodes.Node.TheVariants.{Application, Function, Place, Ingredient}
 use Rattle.node.specs.declared.nodes.Misspelling.{Misspelling}
@@ -10,12 +11,9 @@ use Rattle.node.specs.Spell.{spelling_of, spell_place, spell_ingredient, width_o
 use Rattle.node.specs.Checks.{Fitting, fitted, judged}
 use Rattle.code.specs.Scans.{Slot, Scan, located, parts_of, next, scan}
 
-pub err_not_ok : {A E : Type 0} {a : A} {e : E} → ◌≡◌ {A = Result A E} (Err e) (Ok a) → ⊥
-err_not_ok h = let z : ◌≡◌ {A = ℕ} 0 1 = cc in omega arith
-
 test_passed : {A E : Type 0} (b : Bool) (x : Result A E) (e : E) (a : A) → cond b x (Err e) ≡ Ok a → (b ≡ true) × (x ≡ Ok a)
 test_passed true x e a h = (refl, h)
-test_passed false x e a h = absurd (err_not_ok h)
+test_passed false x e a h = cc
 
 -- what passed is the node itself, and it may stand there
 fitted_ok : (at d : ℕ) (n m : Node) → fitted at d n ≡ Ok m → (n ≡ m) × Fitting d n
@@ -30,13 +28,10 @@ pub record Admitted (n d : ℕ) (s : Result Node Misspelling) (node : Node) : Ty
   pub fitting : Fitting d node
 
 pub judged_ok : (end at n d : ℕ) (s : Result Node Misspelling) (node : Node) → judged end at n d s ≡ Ok node → Admitted n d s node
-judged_ok end at n d (Err Nothing) node h = absurd (err_not_ok h)
-judged_ok end at n d (Err Unknown) node h = absurd (err_not_ok h)
-judged_ok end at n d (Err Cut) node h = absurd (err_not_ok (test_passed (ltb n most_nodes) _ _ _ h).1)
-judged_ok end at n d (Ok m) node h =
-    let p = test_passed (ltb n most_nodes) _ _ _ h in
-    let q = fitted_ok at d m node p.1 in
-    record { spelled = ap Ok q.0; room = ltb-true n most_nodes p.0; fitting = subst (Fitting d) q.0 q.1 }
+judged_ok end at n d (Err Nothing) node h = cc
+judged_ok end at n d (Err Unknown) node h = cc
+judged_ok end at n d (Err Cut) node h = cc ((test_passed (ltb n most_nodes) _ _ _ h).1)
+judged_ok end at n d (Ok m) node h = grind (arith, nat_tests, test_passed, fitted_ok)
 
 -- the reading after node number n, and with that node
 abbrev pub onward : (end m n : ℕ) (s : Slot) (ss : List Slot) (bs : List ℕ) (node : Node) → Scan
@@ -56,33 +51,21 @@ Spells Function bs = bs ≡ 2 ∷ drop 1 bs
 Spells (Place k) bs = bs ≡ 3 ∷ k ∷ drop 2 bs
 Spells (Ingredient i) bs = (high : ℕ) × (low : ℕ) × (i ≡ 256 * high + low) × (bs ≡ 4 ∷ high ∷ low ∷ drop 3 bs)
 
-way : {A : Type 0} (b : Bool) (x y z : A) → cond b x y ≡ z → ((b ≡ true) × (x ≡ z)) ⊎ ((b ≡ false) × (y ≡ z))
-way true x y z h = inl (refl, h)
-way false x y z h = inr (refl, h)
-
 same_node : {m n : Node} → ◌≡◌ {A = Result Node Misspelling} (Ok m) (Ok n) → m ≡ n
 same_node h = cc
 
 spells_place : (bs : List ℕ) (node : Node) → spell_place bs ≡ Ok node → Spells node (3 ∷ bs)
-spells_place [] node h = absurd (err_not_ok h)
+spells_place [] node h = cc
 spells_place (k ∷ bs) node h = subst (λ n. Spells n (3 ∷ k ∷ bs)) (same_node h) refl
 
 spells_ingredient : (bs : List ℕ) (node : Node) → spell_ingredient bs ≡ Ok node → Spells node (4 ∷ bs)
-spells_ingredient [] node h = absurd (err_not_ok h)
-spells_ingredient (high ∷ []) node h = absurd (err_not_ok h)
+spells_ingredient [] node h = cc
+spells_ingredient (high ∷ []) node h = cc
 spells_ingredient (high ∷ low ∷ bs) node h = subst (λ n. Spells n (4 ∷ high ∷ low ∷ bs)) (same_node h) (high, low, refl, refl)
 
 pub spells : (bs : List ℕ) (node : Node) → spelling_of bs ≡ Ok node → Spells node bs
-spells [] node h = absurd (err_not_ok h)
-spells (tag ∷ bs) node h =
-    let as_tag : (n : ℕ) → eqb tag n ≡ true → Spells node (n ∷ bs) → Spells node (tag ∷ bs) = λ n e p. subst (λ t. Spells node (t ∷ bs)) (sym (eqb-true tag n e)) p in
-    ⊎_elim (λ p. as_tag 1 p.0 (subst (λ n. Spells n (1 ∷ bs)) (same_node p.1) refl))
-    (λ p. ⊎_elim (λ p. as_tag 2 p.0 (subst (λ n. Spells n (2 ∷ bs)) (same_node p.1) refl))
-    (λ p. ⊎_elim (λ p. as_tag 3 p.0 (spells_place bs node p.1))
-    (λ p. ⊎_elim (λ p. as_tag 4 p.0 (spells_ingredient bs node p.1)) (λ p. absurd (err_not_ok p.1)) (way (eqb tag 4) _ _ _ p.1))
-    (way (eqb tag 3) _ _ _ p.1))
-    (way (eqb tag 2) _ _ _ p.1))
-    (way (eqb tag 1) _ _ _ h)
+spells [] node h = cc
+spells (tag ∷ bs) node h = grind (arith, nat_tests, spells_place, spells_ingredient)
 
 -- the bytes that spell a node are there
 pub spelled_width : (bs : List ℕ) (node : Node) → Spells node bs → width_of node ≤ length bs

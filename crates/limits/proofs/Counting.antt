@@ -1,6 +1,6 @@
 -- How often a kind occurs. Assumes nothing.
 use Rattle.std.proofs.Common.{◌≡◌, suc, ◌+◌, true, false, cond, eqb, List, [], ◌∷◌, ◌++◌, arith}
-use Rattle.machine.specs.declared.outcomes.Transition.{Transition}
+use Rattle.machine.specs.declared.transitions.Transition.{Transition}
 use Rattle.machine.specs.Outcomes.{transition_number}
 use Rattle.limits.specs.Counts.{count_of}
 

@@ -1,8 +1,8 @@
 -- The limits follow from the lines. Assumes nothing.
 use Rattle.std.proofs.Common.{◌≡◌, ℕ, suc, ◌*◌, ◌^◌, ◌<◌, ◌≤◌, Bool, true, false, cond, ltb, leb, List, length, Some, Ok, refl, subst, mul-le-mul_left, mul-suc, arith}
 use Rattle.term.specs.Terms.{Term, size, most_nodes}
-use Rattle.machine.specs.declared.outcomes.Transition.{Transition}
-use Rattle.machine.specs.declared.outcomes.Transition.TheVariants.{Beta, Substitution, Search}
+use Rattle.machine.specs.declared.transitions.Transition.{Transition}
+use Rattle.machine.specs.declared.transitions.Transition.TheVariants.{Beta, Substitution, Search}
 use Rattle.machine.specs.declared.outcomes.Table.{Table}
 use Rattle.machine.specs.declared.outcomes.Table.TheVariants.{Stack, Entries, Nodes}
 use Rattle.machine.specs.declared.outcomes.Outcome.TheVariants.{Made, Done, Full}

@@ -3,8 +3,8 @@ use Rattle.std.proofs.Common.{◌≡◌, ℕ, ◌<◌, ◌≤◌, List, Some, Ok
 use Rattle.std.proofs.lemmas.Bool.{cond-true}
 use Rattle.term.specs.Terms.{Term, size}
 use Rattle.term.specs.Reduction.{Steps, Normal}
-use Rattle.machine.specs.declared.outcomes.Transition.{Transition}
-use Rattle.machine.specs.declared.outcomes.Transition.TheVariants.{Beta, Substitution, Search}
+use Rattle.machine.specs.declared.transitions.Transition.{Transition}
+use Rattle.machine.specs.declared.transitions.Transition.TheVariants.{Beta, Substitution, Search}
 use Rattle.machine.specs.Meanings.{Due, transition, done, Standing, Meaning, SoundStanding}
 use Rattle.machine.specs.Rules.{outcome_of, outcome_due}
 use Rattle.limits.specs.Counts.{most_work}

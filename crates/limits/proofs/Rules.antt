@@ -1,8 +1,8 @@
 -- A start brings the lines about, and the rule of each kind keeps them. Assumes nothing.
 use Rattle.std.proofs.Common.{◌≡◌, ℕ, suc, ◌*◌, List, [], ◌∷◌, refl, ap, mul-one, mul-suc, arith}
 use Rattle.term.specs.Terms.{Term, size}
-use Rattle.machine.specs.declared.outcomes.Transition.{Transition}
-use Rattle.machine.specs.declared.outcomes.Transition.TheVariants.{Beta, Substitution, Search}
+use Rattle.machine.specs.declared.transitions.Transition.{Transition}
+use Rattle.machine.specs.declared.transitions.Transition.TheVariants.{Beta, Substitution, Search}
 use Rattle.machine.specs.Meanings.{Places, Standing, Meaning, SoundStanding}
 use Rattle.machine.specs.Rules.{Stands, Rule}
 use Rattle.limits.specs.Counts.{count_of}

@@ -5,12 +5,10 @@ use Rattle.term.specs.Reduction.{Steps, none}
 use Rattle.code.specs.Verdicts.{Verdict, verdict, accepted, refused, told}
 use Rattle.machine.specs.declared.faults.MachineFault.{MachineFault}
 use Rattle.machine.specs.declared.faults.MachineFault.TheVariants as refusal
-use Rattle.machine.specs.declared.outcomes.Transition.{Transition}
-use Rattle.machine.specs.declared.outcomes.Transition.TheVariants.{Beta, Substitution, Search}
-use Rattle.machine.specs.declared.outcomes.Outcome.{Outcome}
-use Rattle.machine.specs.declared.outcomes.Outcome.TheVariants.{Made}
+use Rattle.machine.specs.declared.transitions.Transition.{Transition}
+use Rattle.machine.specs.declared.transitions.Transition.TheVariants.{Beta, Substitution, Search}
 use Rattle.machine.specs.Meanings.{Standing, Meaning, Sound}
-use Rattle.machine.specs.Rules.{sized, AfterStart, AfterStep, Rule, Moved}
+use Rattle.machine.specs.Rules.{sized, AfterStart, Rule, Moved}
 use Rattle.limits.specs.Runs.{Run, started, stepped, Moves, unmoved, moved, RunsGrow}
 use Rattle.limits.specs.Limits.{Lines}
 use Rattle.limits.proofs.Chains.{one_more}
@@ -78,11 +76,6 @@ goes_on t ks _ m _ r (moved {ks = js} {n = n} w a o) = stepped (goes_on t ks js 
 keeps_capacity : (js : List Transition) (m n : Meaning) → Moves m js n → n.capacity ≡ m.capacity
 keeps_capacity _ m _ unmoved = refl
 keeps_capacity _ m _ (moved {ks = js} {n = n} w a o) = a.effect.capacity ∙ keeps_capacity js m n w
-
--- the transition that a step answered, whatever names its answer has
-pub step_on :
-    (ks : List Transition) (k : Transition) (r : Result Outcome MachineFault) (m n o : Meaning) → Moves m ks n → AfterStep n r o → r ≡ Ok (Made k) → Sound o → Moves m (k ∷ ks) o
-step_on ks k r m n o w a e sound = moved w (subst (λ x. AfterStep n x o) e a) sound
 
 pub runs_grow : RunsGrow
 runs_grow = record { begins = begins; goes_on = goes_on; capacity = keeps_capacity }

@@ -1,6 +1,6 @@
 -- The numbers in which the limits of a machine are stated. Assumes nothing.
 use Rattle.std.specs.Prelude.{◌≡◌, ℕ, zero, suc, ◌+◌, ◌*◌, if◌then◌else◌, List, [], ◌∷◌, ◌==◌}
-use Rattle.machine.specs.declared.outcomes.Transition.{Transition}
+use Rattle.machine.specs.declared.transitions.Transition.{Transition}
 use Rattle.machine.specs.Outcomes.{transition_number}
 
 -- 1 + 2 + .. + n

@@ -2,8 +2,8 @@
 use Rattle.std.specs.Prelude.{◌≡◌, ℕ, suc, ◌+◌, ◌*◌, ◌^◌, ◌<◌, ◌≤◌, ◌⊎◌, List, length, Some, Ok}
 use Rattle.term.specs.Terms.{Term, size, most_nodes}
 use Rattle.term.specs.Reduction.{Steps, Normal}
-use Rattle.machine.specs.declared.outcomes.Transition.{Transition}
-use Rattle.machine.specs.declared.outcomes.Transition.TheVariants.{Beta, Substitution, Search}
+use Rattle.machine.specs.declared.transitions.Transition.{Transition}
+use Rattle.machine.specs.declared.transitions.Transition.TheVariants.{Beta, Substitution, Search}
 use Rattle.machine.specs.declared.outcomes.Outcome.TheVariants.{Made, Done}
 use Rattle.machine.specs.Meanings.{Places, transition, Standing, Meaning}
 use Rattle.machine.specs.Rules.{outcome_due}

@@ -2,7 +2,7 @@
 use Rattle.std.specs.Prelude.{◌≡◌, ℕ, List, [], ◌∷◌, ◌++◌, Ok}
 use Rattle.term.specs.Terms.{Term, size}
 use Rattle.code.specs.Verdicts.{verdict, accepted}
-use Rattle.machine.specs.declared.outcomes.Transition.{Transition}
+use Rattle.machine.specs.declared.transitions.Transition.{Transition}
 use Rattle.machine.specs.declared.outcomes.Outcome.TheVariants.{Made}
 use Rattle.machine.specs.Meanings.{Meaning, Sound}
 use Rattle.machine.specs.Rules.{AfterStart, AfterStep}

@@ -3,8 +3,8 @@ use Rattle.std.specs.Prelude.{◌≡◌, ℕ, ◌<◌, ◌≤◌, Some, Option}
 use Rattle.tables.specs.Limits.{node_limit, entry_limit, stack_limit}
 use Rattle.term.specs.Terms.{Term, Closed}
 use Rattle.term.specs.Reduction.{Step, Normal}
-use Rattle.machine.specs.declared.outcomes.Transition.{Transition}
-use Rattle.machine.specs.declared.outcomes.Transition.TheVariants.{Beta, Substitution, Search}
+use Rattle.machine.specs.declared.transitions.Transition.{Transition}
+use Rattle.machine.specs.declared.transitions.Transition.TheVariants.{Beta, Substitution, Search}
 
 -- a number of places in each table
 pub record Places : Type 0 where

@@ -1,7 +1,7 @@
 -- The number and the name of each kind of transition and of each table. Assumes nothing.
 use Rattle.std.specs.Prelude.{ℕ, List, codes}
-use Rattle.machine.specs.declared.outcomes.Transition.{Transition}
-use Rattle.machine.specs.declared.outcomes.Transition.TheVariants.{Beta, Substitution, Search}
+use Rattle.machine.specs.declared.transitions.Transition.{Transition}
+use Rattle.machine.specs.declared.transitions.Transition.TheVariants.{Beta, Substitution, Search}
 use Rattle.machine.specs.declared.outcomes.Table.{Table}
 use Rattle.machine.specs.declared.outcomes.Table.TheVariants.{Stack, Entries, Nodes}
 

@@ -4,7 +4,9 @@
 mod faults;
 mod machines;
 mod outcomes;
+mod transitions;
 
 pub use faults::MachineFault;
 pub use machines::Machine;
-pub use outcomes::{Outcome, Table, Transition};
+pub use outcomes::{Outcome, Table};
+pub use transitions::Transition;

@@ -1,61 +1,16 @@
 ghost use Rattle.std.specs.Prelude.{◌≡◌, Some};
 ghost use Rattle.std.specs.Fmt.{padded};
-ghost use Rattle.machine.specs.Outcomes.{transition_number, transition_name, table_number, table_name};
+ghost use Rattle.machine.specs.Outcomes.{table_number, table_name};
 
+use crate::transitions::Transition;
 use std::fmt;
 
-// The kinds of transition.
-#[derive(Clone, Copy, PartialEq, Eq, Debug)]
-pub enum Transition {
-    // a function takes its argument
-    Beta,
-    // a filled place gives way to what fills it
-    Substitution,
-    // from an application to its left side
-    Search,
-}
-
-impl Transition {
-    pub fn name(&self) -> &'static str
-        ensures { result.now ≡ transition_name self.now }
-    {
-        match self {
-            Transition::Beta => "beta",
-            Transition::Substitution => "substitution",
-            Transition::Search => "search",
-        }
-    }
-}
-
-impl fmt::Display for Transition {
-    ghost output = { λ transition. Some (transition_name transition) };
-
-    ghost styled_output = { λ transition style. Some (padded style (transition_name transition)) };
-
-    fn fmt<W: fmt::Write>(&self, f: &mut fmt::Formatter<W>) -> fmt::Result {
-        f.pad(self.name())
-    }
-}
-
-// The number of a kind of transition.
-impl From<Transition> for u8 {
-    ghost from_gives = { λ transition number. number ≡ transition_number transition };
-
-    fn from(transition: Transition) -> u8 {
-        match transition {
-            Transition::Beta => 1,
-            Transition::Substitution => 2,
-            Transition::Search => 3,
-        }
-    }
-}
-
-// The tables of a machine.
+// The tables of a machine, with their numbers.
 #[derive(Clone, Copy, PartialEq, Eq, Debug)]
 pub enum Table {
-    Stack,
-    Entries,
-    Nodes,
+    Stack = 2,
+    Entries = 3,
+    Nodes = 4,
 }
 
 impl Table {
@@ -85,11 +40,7 @@ impl From<Table> for u8 {
     ghost from_gives = { λ table number. number ≡ table_number table };
 
     fn from(table: Table) -> u8 {
-        match table {
-            Table::Stack => 2,
-            Table::Entries => 3,
-            Table::Nodes => 4,
-        }
+        table as u8
     }
 }
 

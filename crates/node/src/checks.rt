@@ -37,7 +37,7 @@ impl Site {
         let Site { at, depth, .. } = self;
         match node {
             Node::Function if depth >= MOST_NESTED => Err(Fault::TooDeep { at }),
-            Node::Place(index) if index >= depth as u16 => Err(Fault::Uncovered { at }),
+            Node::Place(index) if index >= u16::from(depth) => Err(Fault::Uncovered { at }),
             Node::Ingredient(i) if i > LAST_INGREDIENT => Err(Fault::NoSuchIngredient { at }),
             _ => Ok(node),
         }

@@ -6,7 +6,6 @@ use Rattle.code.specs.Scans.{Slot, root, left_of, right_of, body_of, handed_over
 use Rattle.code.specs.Verdicts.{Verdict, accepted, refused, verdict, told}
 use Rattle.code.specs.Layouts.{layout}
 use Rattle.code.specs.Law.{ReadingLaw}
-use Rattle.code.proofs.Turns.{err_not_ok}
 use Rattle.reading.specs.declared.counter.Counter.{Counter}
 use Rattle.reading.specs.declared.counts.CountFault.{CountFault}
 use Rattle.reading.specs.Counters.{after_node}
@@ -45,11 +44,11 @@ found bs n i end ok law is = go (verdict bs) refl
         let none : 0 + occurrences i t ≡ occurrences i t = omega arith in
         let all = is ∙ ap (fold after_node (counter i 0)) (law.laid_out t e) ∙ counts_term i 0 0 root t (omega arith) ∙ ap (counter i) none in
         ap (λ c. Ok c.found) all ∙ sym (ap (occurring i) e)
-    go (refused f) e = absurd (err_not_ok (sym (ok ∙ ap told e)))
+    go (refused f) e = cc (ok ∙ ap told e)
 
 begins_at_none : (b : Bool) (e : CountFault) (i : ℕ) (start : Counter) → Ok start ≡ cond b (Ok (counter i 0)) (Err e) → (b ≡ true) × (start ≡ counter i 0)
 begins_at_none true e i start h = (refl, cc)
-begins_at_none false e i start h = absurd (err_not_ok (sym h))
+begins_at_none false e i start h = cc
 
 -- and so what a new counter finds
 pub counted_by : (bs : List ℕ) (n i : ℕ) (start end : Counter) → Ok start ≡ counter_of i → Ok n ≡ told (verdict bs) → ReadingLaw bs → end ≡ fold after_node start (handed_over bs) → Ok end.found ≡ counted bs i

@@ -12,7 +12,7 @@ use node::{LAST_INGREDIENT, Located, Node};
 #[derive(Clone, Copy)]
 pub(crate) struct Counter {
     ingredient: u16,
-    pub(crate) found: u16,
+    pub found: u16,
 }
 
 impl Counter {

@@ -13,7 +13,8 @@ pub(crate) struct Opening {
     ghost shallow: { depth ≤ most_nested },
 }
 
-// A right side that waits for the left side: its application's number, and its depth.
+// A right side that waits for the left side: its application's number, and its depth. An opening would say it too,
+// in twice the bytes, and all of them are set to zero at each reading.
 #[derive(Clone, Copy, Default)]
 struct RightSide {
     application: u16,

@@ -7,8 +7,8 @@ use node::Located;
 pub trait Receiver {
     ghost Held: { Type 0 };
 
-    // What a receiver holds. One that writes to what its owner lent holds that too, and the names of those loans,
-    // so that its owner knows of the very same that it has them back.
+    // What a receiver holds. If its owner lent it something to write to, that belongs to it, and the names of the loans do:
+    // by these the owner knows, once the reading has ended, that what comes back is what it lent.
     ghost held: { Self → Held };
 
     // how one node changes that

@@ -6,7 +6,6 @@ use closure_tables::{Argument, Cell, Entry};
 use machine::{Machine, MachineFault, Outcome};
 use reading::{count, read};
 use std::alloc::Global;
-use std::fmt::Display;
 use std::io;
 
 const PANTRY: [(&str, u16); 5] = [
@@ -32,23 +31,14 @@ fn print_code(rt: &impl Print, code: &[u8]) -> io::Result<()> {
     println!(rt; "")
 }
 
-// What was not done, with the number and the text of the refusal.
-fn print_refusal<F: Copy + Display + Into<u8>>(
-    rt: &impl Print,
-    what: &str,
-    fault: F,
-) -> io::Result<()> {
-    let number: u8 = fault.into();
-    print!(rt; "{what} {number}, {fault}")
-}
-
 fn print_verdict(rt: &impl Print, code: &[u8]) -> io::Result<()> {
     match read(&mut (), code) {
         Ok(size) => println!(rt; "  a recipe of {size} nodes"),
-        Err(fault) => {
-            print_refusal(rt, "  refused with", fault)?;
-            println!(rt; ", at byte {}", fault.byte())
-        }
+        Err(fault) => println!(rt;
+            "  refused with {}, {fault}, at byte {}",
+            u8::from(fault),
+            fault.byte()
+        ),
     }
 }
 
@@ -56,11 +46,7 @@ fn print_counts(rt: &impl Print, code: &[u8]) -> io::Result<()> {
     for (name, ingredient) in PANTRY {
         match count(code, ingredient) {
             Ok(found) => println!(rt; "  {name}: {found}")?,
-            Err(fault) => {
-                print!(rt; "  {name} ")?;
-                print_refusal(rt, "not counted:", fault)?;
-                println!(rt; "")?;
-            }
+            Err(fault) => println!(rt; "  {name} not counted: {}, {fault}", u8::from(fault))?,
         }
     }
     Ok(())
@@ -89,28 +75,17 @@ fn print_damaged(rt: &impl Print, heap: Global) -> io::Result<()> {
 }
 
 fn print_machine_refusal(rt: &impl Print, fault: MachineFault) -> io::Result<()> {
-    print_refusal(rt, "  refused with", fault)?;
-    println!(rt; "")
+    println!(rt; "  refused with {}, {fault}", u8::from(fault))
 }
 
-// Answers whether a transition was made.
-fn print_step<M: Machine>(rt: &impl Print, machine: &mut M) -> io::Result<bool> {
-    match machine.step() {
-        Ok(Outcome::Made(transition)) => {
-            println!(rt; "  {transition}")?;
-            return Ok(true);
-        }
-        Ok(Outcome::Done) => println!(rt; "  done")?,
-        Ok(Outcome::Full(table)) => println!(rt; "  full: {table}")?,
-        Err(fault) => print_machine_refusal(rt, fault)?,
-    }
-    Ok(false)
-}
-
+// Each transition, until none is made.
 fn print_steps<M: Machine>(rt: &impl Print, machine: &mut M) -> io::Result<()> {
     for _ in 0..100 {
-        if !print_step(rt, machine)? {
-            return Ok(());
+        match machine.step() {
+            Ok(Outcome::Made(transition)) => println!(rt; "  {transition}")?,
+            Ok(Outcome::Done) => return println!(rt; "  done"),
+            Ok(Outcome::Full(table)) => return println!(rt; "  full: {table}"),
+            Err(fault) => return print_machine_refusal(rt, fault),
         }
     }
     Ok(())
@@ -121,7 +96,7 @@ fn print_standing<M: Machine>(rt: &impl Print, machine: &M) -> io::Result<()> {
     let mut scratch = [0; 64];
     match machine.write(&mut output, &mut scratch) {
         Ok(length) => {
-            let code = output.get(0..length).unwrap_or(&[]);
+            let code = &output[..length];
             print_code(rt, code)?;
             print_counts(rt, code)
         }

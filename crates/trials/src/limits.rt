@@ -60,14 +60,10 @@ fn a_tag_comes_before_the_limit(rt: HostRuntime) {
 #[test]
 fn functions_nest_128_deep(rt: HostRuntime) {
     let mut code = [2; 132];
-    code[128] = 4;
-    code[129] = 0;
-    code[130] = 5;
+    code[128..131].copy_from_slice(&[4, 0, 5]);
     assert_eq!(rt; read_size(&code[0..131]), Ok(129));
     code[128] = 2;
-    code[129] = 4;
-    code[130] = 0;
-    code[131] = 5;
+    code[129..132].copy_from_slice(&[4, 0, 5]);
     assert_eq!(rt; read_size(&code), Err(Fault::TooDeep { at: 128 }));
     assert_eq!(rt; read_size(&code[0..129]), Err(Fault::TooDeep { at: 128 }));
 }

@@ -1,1 +1,1 @@
-pub mod Walking
+mod Walking

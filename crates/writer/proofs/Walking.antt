@@ -1,15 +1,18 @@
 -- What the loop of the writer keeps. Assumes nothing.
-use Rattle.std.proofs.Common.{◌≡◌, ℕ, ◌+◌, ◌<◌, ◌≤◌, List, [], ◌∷◌, ◌++◌, length, take, drop, Some, None, Option, sym, refl, ap, ◌∙◌, subst, arith, length-append}
-use Rattle.std.proofs.lemmas.List.{append_assoc, length-take-le, length-drop, take_at, drop_at, drop-drop}
+use Rattle.std.proofs.Common.{◌≡◌, ℕ, ◌+◌, ◌<◌, ◌≤◌, List, [], ◌∷◌, ◌++◌, length, drop, Some, None, Option, sym, refl, ap, ◌∙◌, subst, arith, length-append}
+use Rattle.std.proofs.lemmas.List.{append_assoc, length-drop, drop-drop}
 use Rattle.std.proofs.lemmas.Bool.{lt-leb, cond-false}
+use Rattle.std.specs.List.{slice_get}
 use Rattle.std.specs.Option.{option_map}
 use Rattle.term.specs.Terms.{Term, function, application, code}
 use Rattle.machine.specs.Writing.{put_code, wiped}
 use Rattle.writer.specs.declared.heads.Head.{Head}
 use Rattle.writer.specs.declared.heads.Head.TheVariants.{Application, Function, Place, Ingredient}
-use Rattle.writer.specs.Heads.{both, Looks}
-use Rattle.writer.specs.Pending.{Ahead, popped}
-use Rattle.writer.specs.Walks.{own, AfterPut, advanced, AfterAdvance, AfterWalk}
+use Rattle.writer.specs.declared.sheet.Sheet.{Sheet}
+use Rattle.writer.specs.Heads.{both, own, Looks}
+use Rattle.writer.specs.Pending.{Waiting, Ahead}
+use Rattle.writer.specs.Sheets.{text, blank, Put}
+use Rattle.writer.specs.Walks.{advanced}
 
 -- the positions of the parts of a head, before others
 abbrev pub parts : Head → List ℕ → List ℕ
@@ -25,28 +28,22 @@ to_come (Some p) ps = p ∷ ps
 
 -- an advance
 
-abbrev coming : Ahead → List ℕ
-coming t = to_come t.next t.waiting
-
-popped_coming : (ps : List ℕ) → coming (popped ps) ≡ ps
+popped_coming : (ps : List ℕ) → to_come (slice_get ps 0) (drop 1 ps) ≡ ps
 popped_coming [] = refl
 popped_coming (p ∷ ps) = refl
 
-advanced_coming : (h : Head) (ps : List ℕ) → coming (advanced h ps) ≡ parts h ps
-advanced_coming (Application l r) ps = refl
-advanced_coming (Function b) ps = refl
-advanced_coming (Place k) ps = popped_coming ps
-advanced_coming (Ingredient i) ps = popped_coming ps
+advanced_coming : (h : Head) (w : Waiting) → to_come (advanced h w).next (advanced h w).waiting.positions ≡ parts h w.positions
+advanced_coming (Application l r) w = refl
+advanced_coming (Function b) w = refl
+advanced_coming (Place k) w = popped_coming w.positions
+advanced_coming (Ingredient i) w = popped_coming w.positions
 
-popped_waiting : (ps : List ℕ) → length (popped ps).waiting ≤ length ps
-popped_waiting [] = omega arith
-popped_waiting (p ∷ ps) = omega arith
-
-advanced_waiting : (h : Head) (ps : List ℕ) → length (advanced h ps).waiting ≤ length ps + 1
-advanced_waiting (Application l r) ps = omega arith
-advanced_waiting (Function b) ps = omega arith
-advanced_waiting (Place k) ps = omega (arith, popped_waiting ps)
-advanced_waiting (Ingredient i) ps = omega (arith, popped_waiting ps)
+-- no more than one more waits, and there are as many places
+advanced_room : (h : Head) (w : Waiting) → (length (advanced h w).waiting.positions ≤ length w.positions + 1) × ((advanced h w).waiting.places ≡ w.places)
+advanced_room (Application l r) w = (omega arith, refl)
+advanced_room (Function b) w = (omega arith, refl)
+advanced_room (Place k) w = (omega (arith, length-drop 1 w.positions), refl)
+advanced_room (Ingredient i) w = (omega (arith, length-drop 1 w.positions), refl)
 
 -- codes of terms that may be missing
 
@@ -73,7 +70,7 @@ further a b None = refl
 further a b (Some z) = ap Some (append_assoc a b z)
 
 longer : (b : List ℕ) (cs : Option (List ℕ)) (z : List ℕ) → after b cs ≡ Some z → length b ≤ length z
-longer b None z e = let n : ◌≡◌ {A = ℕ} 0 1 = cc in absurd (omega arith)
+longer b None z e = cc
 longer b (Some y) z e =
     let same : b ++ y ≡ z = cc in
     omega (arith, simp length-append at (ap length same))
@@ -94,7 +91,7 @@ module _ (at : ℕ → Option Term) where
 -- the answer where what is to come does not fit
 refused : (t : Option Term) (cs : Option (List ℕ)) (front output : List ℕ) → after front cs ≡ option_map code t → ((z : List ℕ) → cs ≡ Some z → length output < length front + length z) → (scratch : List ℕ) → put_code t output scratch ≡ wiped output scratch
 refused None cs front output e long scratch = refl
-refused (Some t) None front output e long scratch = let z : ◌≡◌ {A = ℕ} 0 1 = cc in absurd (omega arith)
+refused (Some t) None front output e long scratch = cc
 refused (Some t) (Some z) front output e long scratch =
     let same : front ++ z ≡ code t = cc in
     let past : length output < length (code t) = omega (arith, long z refl, simp length-append at (ap length same)) in
@@ -107,27 +104,24 @@ some_byte (Function b) = omega arith
 some_byte (Place k) = omega arith
 some_byte (Ingredient i) = omega arith
 
+pub less_blank : (s s' : Sheet) (h : Head) → Put (own h) s s' → length (blank s') < length (blank s)
+less_blank s s' h put = omega (arith, put.0, some_byte h, ap length put.2, length-drop (length (own h)) (blank s))
+
 module _ (at : ℕ → Option Term) (root : ℕ) (given : List ℕ) where
-  -- what is written and what is to come make the code of the whole; behind what is written the output is as it was given
-  pub record Underway (end : ℕ) (output : List ℕ) (ps : List ℕ) : Type 0 where
-    pub room : end ≤ length output
-    pub size : length output ≡ length given
-    pub back : drop end output ≡ drop end given
-    pub whole : after (take end output) (codes at ps) ≡ option_map code (at root)
+  -- the text and what is to come make the code of the whole; behind the text the output is as it was given
+  pub record Underway (s : Sheet) (ps : List ℕ) : Type 0 where
+    pub size : length (text s) + length (blank s) ≡ length given
+    pub back : blank s ≡ drop (length (text s)) given
+    pub whole : after (text s) (codes at ps) ≡ option_map code (at root)
 
   -- bytes are put
-  put_on : {end e : ℕ} {output output' ps : List ℕ} (bs qs : List ℕ) → Underway end output ps → codes at ps ≡ after bs (codes at qs) → AfterPut bs end output (Some e) output' → Underway e output' qs
-  put_on {end} {e} {output} {output'} bs qs u split put =
-      let front = take end output ++ bs in
-      let long : length front ≡ e = length-append (take end output) bs ∙ ap (λ n. n + length bs) (length-take-le end output u.room) ∙ sym put.0 in
-      let is : output' ≡ front ++ drop e output = put.2 in
-      let same : length output' ≡ length output = omega (arith, put.1, long, ap length is, length-append front (drop e output), length-drop e output) in
-      let past : (xs : List ℕ) → drop e xs ≡ drop (length bs) (drop end xs) = λ xs. ap (λ n. drop n xs) put.0 ∙ sym (drop-drop (length bs) end xs) in
+  put_on : {s s' : Sheet} {ps : List ℕ} (bs qs : List ℕ) → Underway s ps → codes at ps ≡ after bs (codes at qs) → Put bs s s' → Underway s' qs
+  put_on {s} {s'} bs qs u split put =
+      let long : length (text s') ≡ length (text s) + length bs = ap length put.1 ∙ length-append (text s) bs in
       record {
-        room = omega (arith, put.1);
-        size = same ∙ u.size;
-        back = ap (drop e) is ∙ drop_at front (drop e output) e long ∙ past output ∙ ap (drop (length bs)) u.back ∙ sym (past given);
-        whole = ap (λ x. after x (codes at qs)) (ap (take e) is ∙ take_at front (drop e output) e long) ∙ further (take end output) bs (codes at qs) ∙ sym (ap (after (take end output)) split) ∙ u.whole;
+        size = omega (arith, put.0, long, u.size, ap length put.2, length-drop (length bs) (blank s));
+        back = put.2 ∙ ap (drop (length bs)) u.back ∙ drop-drop (length bs) (length (text s)) given ∙ ap (λ n. drop n given) (sym long);
+        whole = ap (λ t. after t (codes at qs)) put.1 ∙ further (text s) bs (codes at qs) ∙ sym (ap (after (text s)) split) ∙ u.whole;
       }
 
   -- the first of what is to come has a head
@@ -135,14 +129,15 @@ module _ (at : ℕ → Option Term) (root : ℕ) (given : List ℕ) where
   split_at ps h {p} some is = ap (λ o. codes at (to_come o ps)) some ∙ head_codes at h p ps is
 
   -- a head is put, and its parts are what comes next
-  pub goes_on : {end e : ℕ} {output output' ps' : List ℕ} {next r : Option ℕ} (ps : List ℕ) (h : Head) {p : ℕ} → Underway end output (to_come next ps) → next ≡ Some p → Looks at p (Some h) → AfterPut (own h) end output (Some e) output' → length ps ≤ end → AfterAdvance h ps r ps' → (length ps' ≤ e) × Underway e output' (to_come r ps')
-  goes_on {end} {e} {output' = output'} ps h u some is put low ahead =
-      let v = put_on (own h) (parts h ps) u (split_at ps h some is) put in
-      let coming' = ap coming ahead ∙ advanced_coming h ps in
-      (omega (arith, put.0, some_byte h, ap (λ t. length t.waiting) ahead, advanced_waiting h ps), subst (Underway e output') (sym coming') v)
+  pub goes_on : {s s' : Sheet} {next : Option ℕ} (w : Waiting) (a : Ahead) (h : Head) {p : ℕ} → Underway s (to_come next w.positions) → next ≡ Some p → Looks at p (Some h) → Put (own h) s s' → a ≡ advanced h w → length w.positions + length (blank s) ≤ w.places → (length a.waiting.positions + length (blank s') ≤ a.waiting.places) × Underway s' (to_come a.next a.waiting.positions)
+  goes_on {s} {s'} w a h u some is put ahead room =
+      let v = put_on (own h) (parts h w.positions) u (split_at w.positions h some is) put in
+      let coming = ap (λ b. to_come b.next b.waiting.positions) ahead ∙ advanced_coming h w in
+      let fits = advanced_room h w in
+      (omega (arith, room, less_blank s s' h put, ap (λ b. length b.waiting.positions) ahead, ap (λ b. b.waiting.places) ahead, fits.0, fits.1), subst (Underway s') (sym coming) v)
 
   -- bytes are not put
-  pub stops : {end : ℕ} {output : List ℕ} {next : Option ℕ} (ps : List ℕ) (h : Head) {p : ℕ} (output' : List ℕ) → Underway end output (to_come next ps) → next ≡ Some p → Looks at p (Some h) → AfterPut (own h) end output None output' → AfterWalk (at root) given None output'
-  stops {end} {output} ps h output' u some is put =
+  pub stops : {s : Sheet} {next : Option ℕ} (ps : List ℕ) (h : Head) {p : ℕ} → Underway s (to_come next ps) → next ≡ Some p → Looks at p (Some h) → length (blank s) < length (own h) → (scratch : List ℕ) → put_code (at root) given scratch ≡ wiped given scratch
+  stops {s = s} ps h u some is put =
       refused (at root) _ _ given u.whole
-      (λ z e. omega (arith, put, longer (own h) (codes at (parts h ps)) z (sym (split_at ps h some is) ∙ e), length-take-le end output u.room, u.size))
+      (λ z e. omega (arith, put, longer (own h) (codes at (parts h ps)) z (sym (split_at ps h some is) ∙ e), u.size))

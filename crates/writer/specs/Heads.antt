@@ -1,5 +1,5 @@
 -- What a look at a position shows. Assumes nothing.
-use Rattle.std.specs.Prelude.{◌≡◌, ℕ, Some, None, Option, option_and_then}
+use Rattle.std.specs.Prelude.{◌≡◌, ℕ, ◌/◌, ◌%◌, List, [], ◌∷◌, Some, None, Option, option_and_then}
 use Rattle.std.specs.Option.{option_map}
 use Rattle.term.specs.Terms.{Term, place, ingredient, function, application}
 use Rattle.writer.specs.declared.heads.Head.{Head}
@@ -16,6 +16,13 @@ headed at (Application l r) = both application (at l) (at r)
 headed at (Function b) = option_map function (at b)
 headed at (Place k) = Some (place k)
 headed at (Ingredient i) = Some (ingredient i)
+
+-- the bytes of a head itself, before the codes of its parts
+abbrev pub own : Head → List ℕ
+own (Application l r) = 1 ∷ []
+own (Function b) = 2 ∷ []
+own (Place k) = 3 ∷ k ∷ []
+own (Ingredient i) = 4 ∷ i / 256 ∷ i % 256 ∷ []
 
 -- a look at position p shows r: the head of the term there, or that there is none
 abbrev pub Looks : (ℕ → Option Term) → ℕ → Option Head → Type 0

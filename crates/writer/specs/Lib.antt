@@ -1,3 +1,4 @@
 pub mod Heads
 pub mod Pending
+pub mod Sheets
 pub mod Walks

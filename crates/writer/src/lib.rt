@@ -3,6 +3,7 @@
 
 mod heads;
 mod pending;
+mod sheet;
 mod unfolding;
 mod writes;
 

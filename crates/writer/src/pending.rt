@@ -1,4 +1,4 @@
-ghost use Rattle.std.specs.Prelude.{◌≡◌, ◌<◌, ◌≤◌, ◌∷◌, length};
+ghost use Rattle.std.specs.Prelude.{◌≡◌, ◌<◌, ◌≤◌, length};
 
 // The right sides that wait until their left ones are written, at the front of places that are lent.
 #[derive(Drop)]
@@ -9,20 +9,18 @@ pub(crate) struct Pending<'a> {
 }
 
 impl Pending<'_> {
-    ghost use Rattle.writer.specs.Pending.{waiting, AfterPop};
+    ghost use Rattle.writer.specs.Pending.{none_wait, waiting, pushed, ahead, popped};
 
     // None waits.
     pub(crate) fn over(places: &mut [u64]) -> Pending<'_>
-        ensures none { result.count ≡ 0 }
-        ensures room { length result.places.now ≡ length places.old }
+        ensures { waiting result ≡ none_wait (length places.old) }
     {
         Pending { places, count: 0 }
     }
 
     pub(crate) fn push(&mut self, right: u64)
         requires { self.old.count < length self.old.places.now }
-        ensures waiting { waiting self.new ≡ right ∷ waiting self.old }
-        ensures room { length self.new.places.now ≡ length self.old.places.now }
+        ensures { waiting self.new ≡ pushed right (waiting self.old) }
     {
         self.places[self.count] = right;
         self.count += 1;
@@ -30,8 +28,7 @@ impl Pending<'_> {
 
     // The latest.
     pub(crate) fn pop(&mut self) -> Option<u64>
-        ensures waiting { AfterPop (waiting self.old) result (waiting self.new) }
-        ensures room { length self.new.places.now ≡ length self.old.places.now }
+        ensures { ahead result self.new ≡ popped (waiting self.old) }
     {
         self.count = self.count.checked_sub(1)?;
         Some(self.places[self.count])

@@ -43,11 +43,15 @@ impl Closure {
             level: &mut levels.nodes,
         };
         let size = read(&mut nodes, code)?;
-        if size as usize > capacity {
+        if usize::from(size) > capacity {
             return Err(MachineFault::TooLarge);
         }
         guard.keep();
-        self.hand = Argument::BLANK;
+        // the whole term, in which no place is free
+        self.hand = Argument {
+            node: 0,
+            chain: None,
+        };
         Ok(size)
     }
 }

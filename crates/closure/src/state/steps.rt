@@ -38,7 +38,8 @@ impl Closure {
         let Some(entry) = self.levels.entries.take() else {
             return Outcome::Full(Table::Entries);
         };
-        self.levels.stack.release();
+        // its place is the highest in use
+        let _ = self.levels.stack.release();
         self.entries[entry] = Entry {
             argument,
             next: self.hand.chain,
@@ -71,7 +72,7 @@ impl Closure {
     {
         let cells = &self.cells[..self.levels.nodes.used()];
         cells
-            .get(self.hand.node as usize)
+            .get(usize::from(self.hand.node))
             .copied()
             .ok_or(MachineFault::Empty)
     }

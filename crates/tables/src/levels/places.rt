@@ -40,10 +40,7 @@ impl Level {
         ensures place { result ≡ last_used (usage self.old) }
         ensures level { usage self.new ≡ one_less (usage self.old) }
     {
-        if self.used == 0 {
-            return None;
-        }
-        self.used -= 1;
+        self.used = self.used.checked_sub(1)?;
         Some(self.used)
     }
 

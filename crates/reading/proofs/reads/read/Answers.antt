@@ -32,9 +32,6 @@ returns-in_err-node g c =
     let r = stopped _ u c.spell.ensures _ c.in_err-node.ensures in
     promised c.args.code.now c.type_inv.code (p.1 ∙ ap Err p.2 ∙ r.0) r.1
 
-pub locate-located-requires : goal.locate-located-requires
-locate-located-requires g c = (ok g (goal.at.locate-located-requires g c).In_ok-node).fitting
-
 pub open-nearest-requires : goal.open-nearest-requires
 open-nearest-requires g c =
     let u = nearest_is _ c.in-Some.is c.loop-nearest.invariant in
@@ -54,9 +51,6 @@ pub slice_bounds-rest-start : goal.slice_bounds-rest-start
 slice_bounds-rest-start g c =
     let wide : c.width.result ≤ length c.loop-nearest.rest.now = omega (arith, (ok g (goal.at.slice_bounds-rest-start g c).In_ok-node).wide) in
     search rules
-
-pub loop-nearest-smaller : goal.loop-nearest-smaller
-loop-nearest-smaller g c = omega (arith, (ok g (goal.at.loop-nearest-smaller g c).In_ok-node).room)
 
 pub loop-nearest-preserved : goal.loop-nearest-preserved
 loop-nearest-preserved g c =

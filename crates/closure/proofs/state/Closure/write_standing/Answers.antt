@@ -1,14 +1,6 @@
 use Rattle.std.proofs.Common.{ap, ◌∙◌, arith}
-use Rattle.closure_tables.specs.Valid.{valid}
-use Rattle.closure.proofs.Writes.{lent_is, lent_few, root_written}
+use Rattle.closure.proofs.Writes.{lent_is, root_written}
 use Rattle.closure.proofs.state.Closure.write_standing.Goals as goal
-
-pub invariant_of-view : goal.invariant_of-view
-invariant_of-view c =
-    let m = c.args.self.now in
-    let same =
-    lent_is m _ _ _ _ _ _ c.used-2.ensures c.used-3.ensures c.used-4.ensures c.deref.ensures.value c.deref-2.ensures.value c.deref-3.ensures.value in
-    record { few = lent_few m _ same; kept = ap valid same ∙ m.kept }
 
 pub returns : goal.returns
 returns c =
