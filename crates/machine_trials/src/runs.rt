@@ -87,10 +87,7 @@ fn stands<M: Machine>(machine: &M, code: &[u8]) -> Result<(), Fail> {
     let mut output = [0; 32];
     let mut scratch = [0; 32];
     let length = machine.write(&mut output, &mut scratch)?;
-    match output.get(0..length) {
-        Some(written) => check_eq(written, code),
-        None => Err(Fail::new("longer than the output")),
-    }
+    check_eq(&output[..length], code)
 }
 
 fn ends<M: Machine>(machine: &mut M, trial: &Trial) -> Result<(), Fail> {
