@@ -32,6 +32,7 @@ use Rattle.closure.proofs.Views.{cells_long}
 -- what is stored of nodes that are handed over, and that the loans are the same
 pub record Handed (s e : Stored) (ls : List Located) : Type 0 where
   pub code : e.code ≡ fold received s.code ls
+  pub long : e.long ≡ s.long
   pub capacity : e.capacity ≡ s.capacity
   pub cells_lent : s.cells_lent ≡ e.cells_lent
   pub level_lent : s.level_lent ≡ e.level_lent
@@ -39,18 +40,20 @@ pub record Handed (s e : Stored) (ls : List Located) : Type 0 where
 pub handed : (s e : Stored) (ls : List Located) → e ≡ fold storing s ls → Handed s e ls
 handed s e [] is = let same = sym is in record {
   code = ap (λ x. x.code) is;
+  long = ap (λ x. x.long) is;
   capacity = ap (λ x. x.capacity) is;
   cells_lent = ap (λ x. x.cells_lent) same;
   level_lent = ap (λ x. x.level_lent) same;
 }
 handed s e (l ∷ ls) is =
     let h = handed (storing s l) e ls is in
-    record { code = h.code; capacity = h.capacity; cells_lent = h.cells_lent; level_lent = h.level_lent }
+    record { code = h.code; long = h.long; capacity = h.capacity; cells_lent = h.cells_lent; level_lent = h.level_lent }
 
 -- the table of nodes of m as a reading begins, lent by those names
 abbrev pub lent : Closure → Levels → ℕ → ℕ → Stored
 lent m low cells_lent level_lent = record {
   code = record { cells = take low.nodes.used (vec_items m.cells); room = low.nodes.capacity - low.nodes.used };
+  long = vec_len m.cells;
   capacity = low.nodes.capacity;
   cells_lent = cells_lent;
   level_lent = level_lent;
@@ -67,7 +70,7 @@ pub record Reading (m : Closure) (low : Levels) (n : Nodes) (bs : List ℕ) : Ty
 
 -- so much is known however it ends, where the level of the nodes is the reading's and the others are as they were
 pub record Laid (m : Closure) (n : Nodes) (l : Levels) (bs : List ℕ) : Type 0 where
-  pub long : l.nodes.capacity ≤ vec_len n.cells.now
+  pub long : vec_len n.cells.now ≡ vec_len m.cells
   pub nodes : l.nodes.capacity ≡ m.levels.nodes.capacity
   pub entries : l.entries.capacity ≡ m.levels.entries.capacity
   pub stack : l.stack.capacity ≡ m.levels.stack.capacity
@@ -95,7 +98,7 @@ laid m low n l bs r up =
     let begun : (lent m low r.cells_lent r.level_lent).code ≡ nothing_received m.levels.nodes.capacity
     = let front : take low.nodes.used (vec_items m.cells) ≡ [] = ap (λ k. take k (vec_items m.cells)) none in cc in
     record {
-      long = omega (arith, ap (λ x. x.capacity) up.nodes, n.fits);
+      long = end.long;
       nodes = ap (λ x. x.capacity) up.nodes ∙ end.capacity ∙ capacity;
       entries = ap (λ x. x.capacity) up.entries ∙ ap (λ u. u.entries.capacity) r.freed;
       stack = ap (λ x. x.capacity) up.stack ∙ ap (λ u. u.stack.capacity) r.freed;
@@ -145,7 +148,7 @@ begun_as m low n l bs t r up v fits =
     let d : take l.stack.used (vec_items m.stack) ≡ [] = ap (λ k. take k (vec_items m.stack)) lay.no_stack in
     cc in
     let used : l.nodes.used ≡ size t
-    = sym (length-take-le l.nodes.used (vec_items n.cells.now) (omega (arith, l.nodes.within, lay.long, n.cells.now.ok))) ∙ ap length lay.cells ∙ st.counted in
+    = sym (length-take-le l.nodes.used (vec_items n.cells.now) (omega (arith, l.nodes.within, lay.nodes, lay.long, m.nodes_fit, n.cells.now.ok))) ∙ ap length lay.cells ∙ st.counted in
     let some : 0 < length cells = omega (arith, st.counted, size_some t) in
     let standing : loaded_in (tables_after m n l) ≡ Some (record { size = size t; state = initial t })
     = ap loaded_in tables ∙ loaded_some (store.started cells) some ∙ (let a = st.counted in let b = st.presents in cc) in
@@ -161,7 +164,7 @@ begun_as m low n l bs t r up v fits =
       answer = sym answer;
       after = (let same : configured (capacity_after l) (used_after l) (tables_after m n l) ≡ holding t (configuration m) = cc in same) ∙ sym before;
       upheld = record {
-        nodes = lay.long;
+        nodes = omega (arith, lay.nodes, lay.long, m.nodes_fit);
         entries = omega (arith, lay.entries, m.entries_fit);
         stack = omega (arith, lay.stack, m.stack_fit);
         kept = ap valid tables ∙ st.valid;

@@ -1,5 +1,5 @@
 -- A node more in the closure machine's table. Assumes nothing.
-use Rattle.std.proofs.Common.{◌≡◌, ℕ, ◌+◌, ◌-◌, ◌<◌, List, [], ◌∷◌, vec_items, ◌++◌, take, set, Some, ap, ◌∙◌, arith}
+use Rattle.std.proofs.Common.{◌≡◌, ℕ, ◌+◌, ◌-◌, ◌<◌, List, [], ◌∷◌, vec_items, vec_len, ◌++◌, take, set, Some, ap, ◌∙◌, arith}
 use Rattle.node.specs.declared.nodes.Located.{Located}
 use Rattle.tables.specs.declared.levels.Level.{Level}
 use Rattle.tables.specs.Usages.{usage, first_free, one_more}
@@ -12,16 +12,17 @@ use Rattle.closure.specs.Stores.{stored_in, storing}
 
 -- a node was stored at the level, which rose
 pub stored_more :
-    (n : Nodes) (up : Level) (rows : List Cell) (at : ℕ) (x : Cell) (node : Located) →
+    (n : Nodes) (up : Level) (rows : List Cell) (long : ℕ) (at : ℕ) (x : Cell) (node : Located) →
     Some at ≡ first_free (usage n.level.now) → usage up ≡ one_more (usage n.level.now) →
-    rows ≡ joined node.part node.number (vec_items n.cells.now) → x ≡ cell_of node.node →
+    rows ≡ joined node.part node.number (vec_items n.cells.now) → long ≡ vec_len n.cells.now → x ≡ cell_of node.node →
     record {
       code = record { cells = take up.used (set rows at x); room = up.capacity - up.used };
+      long = long;
       capacity = up.capacity;
       cells_lent = n.cells.ghost_name;
       level_lent = n.level.ghost_name;
     } ≡ storing (stored_in n) node
-stored_more n up rows at x node place level joins is =
+stored_more n up rows long at x node place level joins kept is =
     let took = usages.taken (usage n.level.now) at place in
     let k = n.level.now.used in
     let used : up.used ≡ k + 1 = let u = ap (λ u. u.used) level ∙ took.level in omega arith in

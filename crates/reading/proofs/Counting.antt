@@ -1,5 +1,5 @@
 -- A counter that is handed a term's nodes has counted the term. Assumes nothing.
-use Rattle.std.proofs.Common.{◌≡◌, ℕ, suc, ◌+◌, ◌≤◌, min, Bool, true, false, cond, eqb, List, Ok, Err, fold, sym, refl, ap, ◌∙◌, arith}
+use Rattle.std.proofs.Common.{◌≡◌, ℕ, suc, ◌+◌, ◌≤◌, min, true, false, cond, eqb, List, Ok, fold, sym, refl, ap, ◌∙◌, arith}
 use Rattle.std.proofs.iter.runs.Lists.{fold-append}
 use Rattle.term.specs.Terms.{Term, place, ingredient, function, application, size, occurrences}
 use Rattle.code.specs.Scans.{Slot, root, left_of, right_of, body_of, handed_over}
@@ -7,9 +7,8 @@ use Rattle.code.specs.Verdicts.{Verdict, accepted, refused, verdict, told}
 use Rattle.code.specs.Layouts.{layout}
 use Rattle.code.specs.Law.{ReadingLaw}
 use Rattle.reading.specs.declared.counter.Counter.{Counter}
-use Rattle.reading.specs.declared.counts.CountFault.{CountFault}
 use Rattle.reading.specs.Counters.{after_node}
-use Rattle.reading.specs.Counts.{counter_of, occurring, in_code, counted}
+use Rattle.reading.specs.Counts.{occurring}
 
 abbrev counter : ℕ → ℕ → Counter
 counter i k = record { ingredient = i; found = k }
@@ -35,23 +34,16 @@ counts_term i k n s (application t u) h =
     ∙ ap (counter i) sum
 
 -- what a counter that begins at 0 finds in an accepted code
-found : (bs : List ℕ) (n i : ℕ) (end : Counter) → Ok n ≡ told (verdict bs) → ReadingLaw bs → end ≡ fold after_node (counter i 0) (handed_over bs) → Ok end.found ≡ occurring i (verdict bs)
-found bs n i end ok law is = go (verdict bs) refl
+pub found : (bs : List ℕ) (n : ℕ) (start end : Counter) → start.found ≡ 0 → Ok n ≡ told (verdict bs) → ReadingLaw bs → end ≡ fold after_node start (handed_over bs) → Ok end.found ≡ occurring start.ingredient (verdict bs)
+found bs n start end zero ok law is = go (verdict bs) refl
   where
-    go : (v : Verdict) → verdict bs ≡ v → Ok end.found ≡ occurring i (verdict bs)
+    i : ℕ
+    i = start.ingredient
+
+    go : (v : Verdict) → verdict bs ≡ v → Ok end.found ≡ occurring start.ingredient (verdict bs)
     go (accepted t) e =
         let small = ((law.accepts_exactly t).0 e).1.small in
         let none : 0 + occurrences i t ≡ occurrences i t = omega arith in
-        let all = is ∙ ap (fold after_node (counter i 0)) (law.laid_out t e) ∙ counts_term i 0 0 root t (omega arith) ∙ ap (counter i) none in
+        let all = is ∙ (λ x. fold after_node (counter i (zero x)) (law.laid_out t e x)) ∙ counts_term i 0 0 root t (omega arith) ∙ ap (counter i) none in
         ap (λ c. Ok c.found) all ∙ sym (ap (occurring i) e)
     go (refused f) e = cc (ok ∙ ap told e)
-
-begins_at_none : (b : Bool) (e : CountFault) (i : ℕ) (start : Counter) → Ok start ≡ cond b (Ok (counter i 0)) (Err e) → (b ≡ true) × (start ≡ counter i 0)
-begins_at_none true e i start h = (refl, cc)
-begins_at_none false e i start h = cc
-
--- and so what a new counter finds
-pub counted_by : (bs : List ℕ) (n i : ℕ) (start end : Counter) → Ok start ≡ counter_of i → Ok n ≡ told (verdict bs) → ReadingLaw bs → end ≡ fold after_node start (handed_over bs) → Ok end.found ≡ counted bs i
-counted_by bs n i start end new ok law is =
-    let known = begins_at_none _ _ i start new in
-    rw (known.0, counted) (ap in_code (found bs n i end ok law (is ∙ ap (λ c. fold after_node c (handed_over bs)) known.1)))

@@ -1,3 +1,4 @@
+pub mod RightSides
 pub mod Stacks
 pub mod Loops
 pub mod Counting

@@ -1,6 +1,5 @@
 -- What the loop of the reading keeps. Assumes nothing.
-use Rattle.std.proofs.Common.{Result, ◌≡◌, ℕ, suc, ◌+◌, ◌-◌, ◌<◌, ◌≤◌, List, [], ◌∷◌, length, drop, Some, Ok, Err, fold, Option, reverse, sym, ap, ◌∙◌, subst, subst₂, arith, length-drop}
-use Rattle.arrayvec.specs.ArrayVec.{array_vec_len}
+use Rattle.std.proofs.Common.{Result, ◌≡◌, ℕ, suc, ◌+◌, ◌-◌, ◌<◌, ◌≤◌, List, [], ◌∷◌, length, drop, Some, Ok, Err, fold, Option, sym, ap, ◌∙◌, subst, subst₂, arith, length-drop}
 use Rattle.node.specs.declared.nodes.Node.{Node}
 use Rattle.node.specs.declared.nodes.Misspelling.{Misspelling}
 use Rattle.node.specs.declared.nodes.Located.{Located}
@@ -12,6 +11,7 @@ use Rattle.code.specs.Scans.{Slot, Scan, root, located, parts_of, next, scan, re
 use Rattle.code.proofs.Turns.{judged_ok, onward, goes_on, stops, spells, spelled_width}
 use Rattle.reading.specs.declared.frontier.Frontier.{Frontier}
 use Rattle.reading.specs.declared.frontier.Opening.{Opening}
+use Rattle.reading.specs.RightSides.{rows}
 use Rattle.reading.specs.Frontiers.{slot_at, slot_of, stacked, waiting, upcoming, Falling, Nested, Opened}
 use Rattle.reading.proofs.Stacks.{length_around}
 
@@ -44,7 +44,7 @@ passed end at n d sp bs node spelt e =
 module _ {H : Type 0} (more : H → Located → H) where
   -- what is left to read ends the reading as its code does, and brings the receiver to the same state
   pub record Underway (code : List ℕ) (start : H) (n : ℕ) (nearest : Option Opening) (f : Frontier) (bs : List ℕ) (now : H) : Type 0 where
-    pub few : array_vec_len f.right_sides ≤ n
+    pub few : f.right_sides.count ≤ n
     pub nested : Nested nearest f
     pub small : n ≤ most_nodes
     pub left : length bs ≤ length code
@@ -52,13 +52,13 @@ module _ {H : Type 0} (more : H → Located → H) where
     pub held : fold more now (rest_of (length code) n (upcoming nearest f) bs).handed ≡ fold more start (reading code).handed
 
   -- before the first node
-  pub begins : (code : List ℕ) (start : H) (f : Frontier) (o : Opening) → f.right_sides.items ≡ [] → slot_of f.binders o ≡ root → Underway code start 0 (Some o) f code start
+  pub begins : (code : List ℕ) (start : H) (f : Frontier) (o : Opening) → f.right_sides.count ≡ 0 → slot_of f.binders o ≡ root → Underway code start 0 (Some o) f code start
   unfolding reading
   begins code start f o none whole =
-      let first : upcoming (Some o) f ≡ root ∷ [] = λ i. whole i ∷ stacked f.binders (reverse (none i)) in
+      let first : upcoming (Some o) f ≡ root ∷ [] = λ i. whole i ∷ stacked f.binders (rows f.right_sides.applications f.right_sides.depths (none i)) in
       record {
-        few = omega (arith, ap length none);
-        nested = subst (λ rs. Falling o.depth (reverse rs)) (sym none) tt;
+        few = omega arith;
+        nested = subst (λ k. Falling o.depth (rows f.right_sides.applications f.right_sides.depths k)) (sym none) tt;
         small = omega arith;
         left = omega arith;
         ended = ap (λ ss. (rest_of (length code) 0 ss code).ended) first;

@@ -1,6 +1,6 @@
 -- What a write to the table of binders leaves. Assumes nothing.
 use Rattle.std.proofs.Common.{◌≡◌, ℕ, zero, suc, ◌+◌, ◌-◌, ◌<◌, ◌≤◌, ◌≢◌, List, [], ◌∷◌, length, get_or, set, refl, ap, ◌∙◌, add-one, arith, get_or-set_other, get_or-set_same}
-use Rattle.reading.specs.declared.frontier.RightSide.{RightSide}
+use Rattle.reading.specs.declared.right_sides.RightSide.{RightSide}
 use Rattle.reading.specs.Frontiers.{around, stacked, Falling}
 
 pub length_around : (bs : List ℕ) (d : ℕ) → length (around bs d) ≡ d

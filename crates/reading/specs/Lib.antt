@@ -1,3 +1,4 @@
+pub mod RightSides
 pub mod Frontiers
 pub mod Counters
 pub mod CountFaults

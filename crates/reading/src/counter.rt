@@ -2,17 +2,19 @@ ghost use Rattle.std.specs.Prelude.{◌≡◌};
 ghost use Rattle.node.specs.declared.nodes.Located.{Located};
 ghost use Rattle.reading.specs.declared.counter.Counter.{Counter};
 ghost use Rattle.reading.specs.Counters.{after_node};
-ghost use Rattle.reading.specs.Counts.{counter_of};
+ghost use Rattle.code.specs.Verdicts.{verdict};
+ghost use Rattle.reading.specs.Counts.{occurring, counter_of};
 
 use crate::counts::CountFault;
+use crate::reads::read;
 use crate::receiver::Receiver;
-use node::{LAST_INGREDIENT, Located, Node};
+use node::{Fault, LAST_INGREDIENT, Located, Node};
 
 // A receiver that counts the nodes that hold one ingredient.
 #[derive(Clone, Copy)]
 pub(crate) struct Counter {
     ingredient: u16,
-    pub found: u16,
+    found: u16,
 }
 
 impl Counter {
@@ -26,6 +28,15 @@ impl Counter {
             ingredient,
             found: 0,
         })
+    }
+
+    // How many nodes of a whole code hold the ingredient.
+    pub(crate) fn over(mut self, code: &[u8]) -> Result<u16, Fault>
+        requires { self.found ≡ 0 }
+        ensures { result ≡ occurring self.ingredient (verdict code.now) }
+    {
+        read(&mut self, code)?;
+        Ok(self.found)
     }
 }
 

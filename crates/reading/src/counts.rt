@@ -7,7 +7,6 @@ ghost use Rattle.reading.specs.CountFaults.{count_number, count_name};
 ghost use Rattle.reading.specs.Counts.{counted};
 
 use crate::counter::Counter;
-use crate::reads::read;
 use node::Fault;
 use std::error::Error;
 use std::fmt;
@@ -67,7 +66,7 @@ impl From<Fault> for CountFault {
 pub fn count(code: &[u8], ingredient: u16) -> Result<u16, CountFault>
     ensures { result ≡ counted code.now ingredient }
 {
-    let mut counter = Counter::new(ingredient)?;
-    read(&mut counter, code)?;
-    Ok(counter.found)
+    let counter = Counter::new(ingredient)?;
+    let found = counter.over(code)?;
+    Ok(found)
 }

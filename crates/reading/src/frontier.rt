@@ -1,8 +1,7 @@
 ghost use Rattle.std.specs.Prelude.{◌≡◌, ◌<◌, ◌≤◌};
-ghost use Rattle.arrayvec.specs.ArrayVec.{array_vec_len};
 ghost use Rattle.term.specs.Terms.{most_nodes, most_nested};
 
-use arrayvec::ArrayVec;
+use crate::right_sides::{RightSide, RightSides};
 use node::{Located, Node, Part};
 
 // A part of the term that is still to come, and its depth: the functions that it stands inside of.
@@ -13,33 +12,25 @@ pub(crate) struct Opening {
     ghost shallow: { depth ≤ most_nested },
 }
 
-// A right side that waits for the left side: its application's number, and its depth. An opening would say it too,
-// in twice the bytes, and all of them are set to zero at each reading.
-#[derive(Clone, Copy, Default)]
-struct RightSide {
-    application: u16,
-    depth: u8,
-}
-
 // What comes after the nearest opening: a stack of right sides.
 // Beside it, by depth, the number of each function around the nearest opening.
 #[derive(Drop)]
 pub(crate) struct Frontier {
-    right_sides: ArrayVec<RightSide, 4096>,
+    right_sides: RightSides,
     binders: [u16; 128],
 }
 
 impl Frontier {
-    ghost use Rattle.std.specs.Prelude.{[]};
     ghost use Rattle.node.specs.Checks.{Fitting};
     ghost use Rattle.code.specs.Scans.{located};
-    ghost use Rattle.reading.specs.Frontiers.{slot_of, top_down, Falling, Opened};
+    ghost use Rattle.reading.specs.RightSides.{top_down};
+    ghost use Rattle.reading.specs.Frontiers.{slot_of, Falling, Opened};
 
     pub(crate) fn new() -> Self
-        ensures { result.right_sides.items ≡ [] }
+        ensures { result.right_sides.count ≡ 0 }
     {
         Frontier {
-            right_sides: ArrayVec::new(),
+            right_sides: RightSides::new(),
             binders: [0; 128],
         }
     }
@@ -65,10 +56,10 @@ impl Frontier {
 
     // The nearest opening once a node has filled the one before: its first part, or the nearest right side.
     pub(crate) fn open(&mut self, filled: Located) -> Option<Opening>
-        requires few { array_vec_len self.old.right_sides < most_nodes }
+        requires few { self.old.right_sides.count < most_nodes }
         requires shallow { filled.depth ≤ most_nested }
         requires fitting { Fitting filled.depth filled.node }
-        requires falling { Falling filled.depth (top_down self.old) }
+        requires falling { Falling filled.depth (top_down self.old.right_sides) }
         ensures { Opened self.old self.new filled result }
     {
         let Located {

@@ -6,6 +6,7 @@ mod counts;
 mod frontier;
 mod reads;
 mod receiver;
+mod right_sides;
 
 pub use counts::{CountFault, count};
 pub use reads::read;

@@ -5,7 +5,6 @@ use closure::Closure;
 use closure_tables::{Argument, Cell, Entry};
 use machine::{Machine, MachineFault, Outcome};
 use reading::{count, read};
-use std::alloc::Global;
 use std::io;
 
 const PANTRY: [(&str, u16); 5] = [
@@ -59,7 +58,7 @@ fn print_recipe(rt: &impl Print) -> io::Result<()> {
     print_counts(rt, &HOUSE_DOUGH)
 }
 
-fn print_damaged(rt: &impl Print, heap: Global) -> io::Result<()> {
+fn print_damaged(rt: &impl Print) -> io::Result<()> {
     println!(rt; "The same, cut short")?;
     print_verdict(rt, &HOUSE_DOUGH[0..33])?;
 
@@ -69,8 +68,8 @@ fn print_damaged(rt: &impl Print, heap: Global) -> io::Result<()> {
     print_verdict(rt, &unknown)?;
 
     println!(rt; "The same, with a byte left over")?;
-    let mut longer = HOUSE_DOUGH.to_vec(heap)?;
-    longer.push(0)?;
+    let mut longer = [0; 35];
+    longer[0..34].copy_from_slice(&HOUSE_DOUGH);
     print_verdict(rt, &longer)
 }
 
@@ -116,9 +115,9 @@ fn print_reduction<M: Machine>(rt: &impl Print, machine: &mut M) -> io::Result<(
 }
 
 fn main(rt: HostRuntime) -> io::Result<()> {
-    let heap = rt.alloc();
     print_recipe(&rt)?;
-    print_damaged(&rt, heap)?;
+    print_damaged(&rt)?;
+    let heap = rt.alloc();
     let mut machine = Closure::new(
         [Cell::BLANK; 64].to_vec(heap)?,
         [Entry::BLANK; 16].to_vec(heap)?,

@@ -1,1 +1,2 @@
-mod Walking
+pub mod Walking
+pub mod Sheets

@@ -1,5 +1,5 @@
 -- What the loop of the writer keeps. Assumes nothing.
-use Rattle.std.proofs.Common.{◌≡◌, ℕ, ◌+◌, ◌<◌, ◌≤◌, List, [], ◌∷◌, ◌++◌, length, drop, Some, None, Option, sym, refl, ap, ◌∙◌, subst, arith, length-append}
+use Rattle.std.proofs.Common.{◌≡◌, ℕ, ◌+◌, ◌*◌, ◌<◌, ◌≤◌, List, [], ◌∷◌, ◌++◌, length, drop, Some, None, Option, sym, refl, ap, ◌∙◌, subst, arith, length-append}
 use Rattle.std.proofs.lemmas.List.{append_assoc, length-drop, drop-drop}
 use Rattle.std.proofs.lemmas.Bool.{lt-leb, cond-false}
 use Rattle.std.specs.List.{slice_get}
@@ -9,8 +9,9 @@ use Rattle.machine.specs.Writing.{put_code, wiped}
 use Rattle.writer.specs.declared.heads.Head.{Head}
 use Rattle.writer.specs.declared.heads.Head.TheVariants.{Application, Function, Place, Ingredient}
 use Rattle.writer.specs.declared.sheet.Sheet.{Sheet}
+use Rattle.writer.specs.declared.pending.Pending.{Pending}
 use Rattle.writer.specs.Heads.{both, own, Looks}
-use Rattle.writer.specs.Pending.{Waiting, Ahead}
+use Rattle.writer.specs.Pending.{Waiting, waiting, Ahead, ahead, popped}
 use Rattle.writer.specs.Sheets.{text, blank, Put}
 use Rattle.writer.specs.Walks.{advanced}
 
@@ -104,8 +105,25 @@ some_byte (Function b) = omega arith
 some_byte (Place k) = omega arith
 some_byte (Ingredient i) = omega arith
 
+-- no more than two parts come in the place of a head
+parts_few : (h : Head) (ps : List ℕ) → length (parts h ps) ≤ length ps + 2
+parts_few (Application l r) ps = omega arith
+parts_few (Function b) ps = omega arith
+parts_few (Place k) ps = omega arith
+parts_few (Ingredient i) ps = omega arith
+
+-- the latest of those that wait comes next, and there is one position less
+pub one_less : (w : Waiting) (next r : Option ℕ) (p : Pending) {q : ℕ} → next ≡ Some q → ahead r p ≡ popped w → length (to_come r (waiting p).positions) < length (to_come next w.positions)
+one_less w next r p some is =
+    omega (arith, ap (λ a. length (to_come a.next a.waiting.positions)) is, ap length (popped_coming w.positions), ap (λ o. length (to_come o w.positions)) some)
+
 pub less_blank : (s s' : Sheet) (h : Head) → Put (own h) s s' → length (blank s') < length (blank s)
 less_blank s s' h put = omega (arith, put.0, some_byte h, ap length put.2, length-drop (length (own h)) (blank s))
+
+-- a head was put, and fewer bytes and positions are to come, where a byte counts for two
+pub less_to_come : (s s' : Sheet) (w : Waiting) (next r : Option ℕ) (p : Pending) (h : Head) {q : ℕ} → next ≡ Some q → Put (own h) s s' → ahead r p ≡ advanced h w → length (to_come r (waiting p).positions) + 2 * length (blank s') < length (to_come next w.positions) + 2 * length (blank s)
+less_to_come s s' w next r p h some put is =
+    omega (arith, less_blank s s' h put, parts_few h w.positions, ap (λ a. length (to_come a.next a.waiting.positions)) is, ap length (advanced_coming h w), ap (λ o. length (to_come o w.positions)) some)
 
 module _ (at : ℕ → Option Term) (root : ℕ) (given : List ℕ) where
   -- the text and what is to come make the code of the whole; behind the text the output is as it was given
@@ -141,3 +159,6 @@ module _ (at : ℕ → Option Term) (root : ℕ) (given : List ℕ) where
   stops {s = s} ps h u some is put =
       refused (at root) _ _ given u.whole
       (λ z e. omega (arith, put, longer (own h) (codes at (parts h ps)) z (sym (split_at ps h some is) ∙ e), u.size))
+
+-- by which the loop of `walk` ends, and would if it passed over a position
+pub ruleset falling = (one_less, less_to_come)

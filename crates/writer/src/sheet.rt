@@ -24,6 +24,7 @@ impl Sheet<'_> {
     }
 
     // Writes bytes behind the others, if there is room for them.
+    #[tactic(auto, using(crate::proofs::Sheets::putting))]
     fn put_all<const N: usize>(&mut self, bytes: [u8; N]) -> Option<()>
         ensures lent { self.new.output.ghost_name ≡ self.old.output.ghost_name }
         ensures put { AfterPut bytes.entry self.old result self.new }

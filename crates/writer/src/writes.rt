@@ -25,6 +25,7 @@ fn advance(pending: &mut Pending<'_>, head: Head) -> Option<u64>
 }
 
 // Writes the code of the term at the root to the front of the output; answers its length, if it fits.
+#[tactic(auto, using(crate::proofs::Walking::falling))]
 fn walk<U: Unfolding>(terms: &U, root: u64, output: &mut [u8], scratch: &mut [u64]) -> Option<usize>
     requires { length output.old ≤ length scratch.old }
     ensures { AfterWalk (U.term terms.now root) output.old result output.new }

@@ -7,7 +7,8 @@ use Rattle.code.specs.Verdicts.{verdict, told, Bytes}
 use Rattle.code.specs.Law.{ReadingLaw}
 use Rattle.code.proofs.Exact.{answered}
 use Rattle.code.proofs.Lawful.{reading_law}
-use Rattle.reading.specs.Frontiers.{top_down, Falling}
+use Rattle.reading.specs.RightSides.{top_down}
+use Rattle.reading.specs.Frontiers.{Falling}
 use Rattle.reading.proofs.Loops.{located_depth, located_fits, Passed, passed, begins, nearest_is, turned, stopped}
 use Rattle.reading.proofs.reads.read.Given as given
 use Rattle.reading.proofs.reads.read.Goals as goal
@@ -41,7 +42,7 @@ open-nearest-requires g c =
       few = omega (arith, u.few, passed.room);
       shallow = omega (arith, deep);
       fitting = located_fits c.loop-nearest.frontier.binders c.in-Some.opening c.locate-located.ensures passed.fitting;
-      falling = subst (λ d. Falling d (top_down c.loop-nearest.frontier)) (sym deep) u.nested;
+      falling = subst (λ d. Falling d (top_down c.loop-nearest.frontier.right_sides)) (sym deep) u.nested;
     }
 
 pub slice_bounds-rest-count : goal.slice_bounds-rest-count

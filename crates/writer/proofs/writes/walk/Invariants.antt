@@ -1,4 +1,4 @@
-use Rattle.std.proofs.Common.{◌≡◌, ◌+◌, ◌≤◌, length}
+use Rattle.std.proofs.Common.{◌≡◌, ◌+◌, ◌*◌, ◌≤◌, length}
 use Rattle.writer.specs.Pending.{waiting}
 use Rattle.writer.specs.Sheets.{blank}
 use Rattle.writer.proofs.Walking.{to_come, Underway}
@@ -11,5 +11,6 @@ invariant-loop-next g l =
     × (length (waiting l.pending).positions + length (blank l.sheet) ≤ (waiting l.pending).places)
     × Underway (g.U.Unfolding.term l.terms) l.root l.fn.output l.sheet (to_come l.next (waiting l.pending).positions)
 
+-- a byte counts for two, since a position that comes in the place of another may be two
 abbrev pub decreases-loop-next : goal.decreases-loop-next
-decreases-loop-next g l = length (blank l.sheet)
+decreases-loop-next g l = length (to_come l.next (waiting l.pending).positions) + 2 * length (blank l.sheet)
