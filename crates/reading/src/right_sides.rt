@@ -44,10 +44,9 @@ impl RightSides {
 
     // The latest.
     pub(crate) fn pop(&mut self) -> Option<RightSide>
-        ensures rows { MatchOption result
-            (top_down self.old ≡ [])
-            (λ right_side. top_down self.old ≡ right_side ∷ top_down self.new) }
-        ensures count { self.new.count ≤ self.old.count }
+        ensures { MatchOption result
+            ((top_down self.old ≡ []) × (self.new ≡ self.old))
+            (λ right_side. (top_down self.old ≡ right_side ∷ top_down self.new) × (self.old.count ≡ self.new.count + 1)) }
     {
         self.count = self.count.checked_sub(1)?;
         Some(RightSide {
