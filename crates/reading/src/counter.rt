@@ -48,7 +48,7 @@ impl Receiver for Counter {
     ghost more = { after_node };
 
     fn put(&mut self, node: Located) {
-        if node.node == Node::Ingredient(self.ingredient) {
+        if matches!(node.node, Node::Ingredient(i) if i == self.ingredient) {
             self.found = self.found.saturating_add(1);
         }
     }

@@ -40,10 +40,11 @@ pub fn read<R: Receiver>(receiver: &mut R, code: &[u8]) -> Result<u16, Fault>
             depth: opening.depth,
         };
         let node = site.judge(code.len(), spell(rest))?;
+        // here, where the compiled code knows the width: further down it asks for the node's kind again
+        rest = &rest[node.width()..];
         let located = frontier.locate(number, opening, node);
         receiver.put(located);
         nearest = frontier.open(located);
-        rest = &rest[node.width()..];
         number += 1;
     }
     finish(code.len(), number, rest)

@@ -37,9 +37,11 @@ impl RightSides {
         ensures count { self.new.count ≡ self.old.count + 1 }
     {
         let RightSide { application, depth } = right_side;
-        self.applications[self.count] = application;
-        self.depths[self.count] = depth;
-        self.count += 1;
+        // a name of its own: else the compiled code reads the count again after each write to a table
+        let top = self.count;
+        self.applications[top] = application;
+        self.depths[top] = depth;
+        self.count = top + 1;
     }
 
     // The latest.
@@ -48,10 +50,11 @@ impl RightSides {
             ((top_down self.old ≡ []) × (self.new ≡ self.old))
             (λ right_side. (top_down self.old ≡ right_side ∷ top_down self.new) × (self.old.count ≡ self.new.count + 1)) }
     {
-        self.count = self.count.checked_sub(1)?;
+        let top = self.count.checked_sub(1)?;
+        self.count = top;
         Some(RightSide {
-            application: self.applications[self.count],
-            depth: self.depths[self.count],
+            application: self.applications[top],
+            depth: self.depths[top],
         })
     }
 }
