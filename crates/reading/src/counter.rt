@@ -48,6 +48,7 @@ impl Receiver for Counter {
     ghost more = { after_node };
 
     fn put(&mut self, node: Located) {
+        // a pattern: where nodes are compared, the compiled loop of a reading asks for their kind again
         if matches!(node.node, Node::Ingredient(i) if i == self.ingredient) {
             self.found = self.found.saturating_add(1);
         }
